@@ -1,0 +1,4 @@
+pub mod Ring
+pub mod Sum
+pub mod Table
+pub mod Loop

@@ -1,0 +1,41 @@
+-- What the entry says, by whether the field was taken.
+use mathlib.Core.Path.{ap, subst, _∙_}
+use mathlib.Core.List.{List}
+use Prim.Native.Nat.{ℕ}
+use lib.ListN.{length}
+use lib.IntN.{ℤ}
+use Rattle.std.specs.declared.option.Option.{Option}
+use Rattle.std.specs.declared.option.Option.the-variants.{Some, None}
+use Rattle.grid.specs.declared.refusal.Refusal.{Refusal}
+use Rattle.grid.specs.Field.{Field, field-in, turns-in}
+use Rattle.grid.specs.Verdict.{verdict}
+use Rattle.grid.proofs.Judging.{judged-is}
+use Rattle.grid.proofs.Holding.{holds-is}
+use Rattle.laws.specs.Cost.{cost}
+use Rattle.unwrap.specs.declared.Done.{Done}
+use Rattle.unwrap.specs.declared.Done.the-variants.{Back, Refused}
+use Rattle.unwrap.specs.Entry.{Refused-says, Back-says, First-says, Answered}
+
+-- what the entry says, from its answer and the verdict
+pub says-refused : (w h t : ℕ) (ss rs bs : List ℕ) (room : List ℤ) (r : Done) (left : List ℤ) → Answered w h t ss rs bs room r left →
+    Refused-says (verdict w h t ss rs bs (length room)) room r left
+says-refused w h t ss rs bs room (Refused n) left ((why, j, e), s) =
+    subst (λ (u : Option Refusal). Refused-says u room (Refused n) left) (judged-is w h t ss rs bs (length room) (Some why) j) (ap Refused e, s)
+says-refused w h t ss rs bs room (Back c) left (j, f) =
+    subst (λ (u : Option Refusal). Refused-says u room (Back c) left) (judged-is w h t ss rs bs (length room) None j) tt
+
+-- the field is the same by value and in lists
+pub says-back : (w h t : ℕ) (ss rs bs : List ℕ) (room : List ℤ) (r : Done) (left : List ℤ) → Answered w h t ss rs bs room r left →
+    Back-says (verdict w h t ss rs bs (length room)) (field-in w h t ss rs bs) r left
+says-back w h t ss rs bs room (Refused n) left ((why, j, e), s) =
+    subst (λ (u : Option Refusal). Back-says u (field-in w h t ss rs bs) (Refused n) left) (judged-is w h t ss rs bs (length room) (Some why) j) tt
+says-back w h t ss rs bs room (Back c) left (j, (f, holds, p)) =
+    subst (λ (u : Option Refusal). Back-says u (field-in w h t ss rs bs) (Back c) left) (judged-is w h t ss rs bs (length room) None j)
+    (ap Back (p .cost-is ∙ ap (λ (k : Field). cost k (turns-in (k .wide) left)) (holds-is w h t ss rs bs f holds)))
+
+pub says-first : (w h t : ℕ) (ss rs bs : List ℕ) (room : List ℤ) (r : Done) (left : List ℤ) → Answered w h t ss rs bs room r left →
+    First-says (verdict w h t ss rs bs (length room)) left
+says-first w h t ss rs bs room (Refused n) left ((why, j, e), s) =
+    subst (λ (u : Option Refusal). First-says u left) (judged-is w h t ss rs bs (length room) (Some why) j) tt
+says-first w h t ss rs bs room (Back c) left (j, (f, holds, p)) =
+    subst (λ (u : Option Refusal). First-says u left) (judged-is w h t ss rs bs (length room) None j) (p .first)
