@@ -93,6 +93,30 @@ impl Field {
         Some(self.seen_at(x, y))
     }
 
+    // The price of the step to the right from a place; None where there is no place.
+    pub fn price_right(&self, place: usize) -> Option<u32>
+        ensures { λ r. ⌜ Checked r (row (field-of (now (self .entry))) place < now (self .entry) .high) (field-of (now (self .entry)) .right (column (field-of (now (self .entry))) place) (row (field-of (now (self .entry))) place)) ⌝ }
+    {
+        let x = place % self.wide;
+        let y = place / self.wide;
+        if y >= self.high {
+            return None;
+        }
+        Some(self.right_row(y)[x])
+    }
+
+    // The price of the step down from a place; None where there is no place.
+    pub fn price_below(&self, place: usize) -> Option<u32>
+        ensures { λ r. ⌜ Checked r (row (field-of (now (self .entry))) place < now (self .entry) .high) (field-of (now (self .entry)) .below (column (field-of (now (self .entry))) place) (row (field-of (now (self .entry))) place)) ⌝ }
+    {
+        let x = place % self.wide;
+        let y = place / self.wide;
+        if y >= self.high {
+            return None;
+        }
+        Some(self.below_row(y)[x])
+    }
+
     // The step that one expects from a place to the one at its right; None where there is none.
     pub fn expected_right(&self, place: usize) -> Option<i64>
         ensures { λ r. ⌜ Checked r (Has-right (field-of (now (self .entry))) place) (expected-right (field-of (now (self .entry))) (column (field-of (now (self .entry))) place) (row (field-of (now (self .entry))) place)) ⌝ }

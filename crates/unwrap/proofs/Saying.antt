@@ -1,5 +1,5 @@
 -- What the entry says, by whether the field was taken.
-use mathlib.Core.Path.{ap, subst, _∙_}
+use mathlib.Core.Path.{_≡_, ap, subst, _∙_}
 use mathlib.Core.List.{List}
 use Prim.Native.Nat.{ℕ}
 use lib.ListN.{length}
@@ -11,10 +11,17 @@ use Rattle.grid.specs.Field.{Field, field-in, turns-in}
 use Rattle.grid.specs.Verdict.{verdict}
 use Rattle.grid.proofs.Judging.{judged-is}
 use Rattle.grid.proofs.Holding.{holds-is}
-use Rattle.laws.specs.Cost.{cost}
+use Rattle.grid.specs.declared.field.Field.{Field as Held}
+use Rattle.grid.specs.Model.{Holds}
+use Rattle.grid.specs.Promise.{Fit}
+use Rattle.laws.specs.Cost.{cost, Least}
+use Rattle.laws.specs.Promise.{All-come-back}
+use Rattle.laws.proofs.Integral.{costs-nothing, found-again}
+use Rattle.unwrap.proofs.Fitting.{field-fit}
+use native.Mathlib.Omega.{arith}
 use Rattle.unwrap.specs.declared.Done.{Done}
 use Rattle.unwrap.specs.declared.Done.the-variants.{Back, Refused}
-use Rattle.unwrap.specs.Entry.{Refused-says, Back-says, First-says, Answered}
+use Rattle.unwrap.specs.Entry.{Refused-says, Back-says, First-says, Least-says, Nothing-says, Found-says, Answered}
 
 -- what the entry says, from its answer and the verdict
 pub says-refused : (w h t : ℕ) (ss rs bs : List ℕ) (room : List ℤ) (r : Done) (left : List ℤ) → Answered w h t ss rs bs room r left →
@@ -39,3 +46,39 @@ says-first w h t ss rs bs room (Refused n) left ((why, j, e), s) =
     subst (λ (u : Option Refusal). First-says u left) (judged-is w h t ss rs bs (length room) (Some why) j) tt
 says-first w h t ss rs bs room (Back c) left (j, (f, holds, p)) =
     subst (λ (u : Option Refusal). First-says u left) (judged-is w h t ss rs bs (length room) None j) (p .first)
+
+pub says-least : (w h t : ℕ) (ss rs bs : List ℕ) (room : List ℤ) (r : Done) (left : List ℤ) → Answered w h t ss rs bs room r left →
+    Least-says (verdict w h t ss rs bs (length room)) (field-in w h t ss rs bs) left
+says-least w h t ss rs bs room (Refused n) left ((why, j, e), s) =
+    subst (λ (u : Option Refusal). Least-says u (field-in w h t ss rs bs) left) (judged-is w h t ss rs bs (length room) (Some why) j) tt
+says-least w h t ss rs bs room (Back c) left (j, (f, holds, p)) =
+    subst (λ (u : Option Refusal). Least-says u (field-in w h t ss rs bs) left) (judged-is w h t ss rs bs (length room) None j)
+    (subst (λ (k : Field). Least k (turns-in (k .wide) left)) (holds-is w h t ss rs bs f holds) (p .least))
+
+-- a field that was taken from lists is fit
+fit-in : (w h t : ℕ) (ss rs bs : List ℕ) (f : Held) → Holds w h t ss rs bs f → Fit (field-in w h t ss rs bs)
+fit-in w h t ss rs bs f holds = subst Fit (holds-is w h t ss rs bs f holds) (field-fit f)
+
+pub says-nothing : (w h t : ℕ) (ss rs bs : List ℕ) (room : List ℤ) (r : Done) (left : List ℤ) → Answered w h t ss rs bs room r left →
+    Nothing-says (verdict w h t ss rs bs (length room)) (field-in w h t ss rs bs) r
+says-nothing w h t ss rs bs room (Refused n) left ((why, j, e), s) =
+    subst (λ (u : Option Refusal). Nothing-says u (field-in w h t ss rs bs) (Refused n)) (judged-is w h t ss rs bs (length room) (Some why) j) tt
+says-nothing w h t ss rs bs room (Back c) left (j, (f, holds, p)) =
+    subst (λ (u : Option Refusal). Nothing-says u (field-in w h t ss rs bs) (Back c)) (judged-is w h t ss rs bs (length room) None j)
+    (λ back. ap Back (none back))
+  where
+  none : All-come-back (field-in w h t ss rs bs) → c ≡ 0
+  none back =
+      let free = costs-nothing (field-in w h t ss rs bs) (fit-in w h t ss rs bs f holds) .0 back in
+      let least = subst (λ (k : Field). Least k (turns-in (k .wide) left)) (holds-is w h t ss rs bs f holds) (p .least) (free .0) in
+      let told = p .cost-is ∙ ap (λ (k : Field). cost k (turns-in (k .wide) left)) (holds-is w h t ss rs bs f holds) in
+      omega (arith, free .1)
+
+pub says-found : (w h t : ℕ) (ss rs bs : List ℕ) (room : List ℤ) (r : Done) (left : List ℤ) → Answered w h t ss rs bs room r left →
+    Found-says (verdict w h t ss rs bs (length room)) (field-in w h t ss rs bs) left
+says-found w h t ss rs bs room (Refused n) left ((why, j, e), s) =
+    subst (λ (u : Option Refusal). Found-says u (field-in w h t ss rs bs) left) (judged-is w h t ss rs bs (length room) (Some why) j) tt
+says-found w h t ss rs bs room (Back c) left (j, (f, holds, p)) =
+    subst (λ (u : Option Refusal). Found-says u (field-in w h t ss rs bs) left) (judged-is w h t ss rs bs (length room) None j)
+    (λ priced s a b. found-again (field-in w h t ss rs bs) s (turns-in w left) (fit-in w h t ss rs bs f holds) priced a b
+      (subst (λ (k : Field). Least k (turns-in (k .wide) left)) (holds-is w h t ss rs bs f holds) (p .least)))

@@ -5,11 +5,16 @@ ghost use lib.ListN.{length};
 ghost use Rattle.grid.specs.Field.{field-in};
 ghost use Rattle.grid.specs.Model.{field-of};
 ghost use Rattle.grid.specs.Verdict.{verdict};
-ghost use Rattle.unwrap.specs.Entry.{Refused-says, Back-says, First-says, Put-back, Answered};
+ghost use Rattle.unwrap.specs.Entry.{Refused-says, Back-says, First-says, Least-says, Nothing-says, Found-says, Put-back, Answered};
+mod cross;
+mod least;
+mod list;
+mod settle;
+mod supply;
+use crate::least::least_steps;
 use grid::field::Field;
 use grid::verdict::Lent;
 use turns::cost::cost;
-use turns::follow::Steps;
 use turns::follow::follow;
 
 #[derive(Clone, Copy, PartialEq, Eq, Debug)]
@@ -20,12 +25,12 @@ pub enum Done {
     Refused(u64),
 }
 
-// Leaves turns that follow what is expected down the first column and along each row, and tells what they cost.
-fn follow_expected(field: &Field, room: &mut [i64]) -> u64
+// Leaves turns that cost least, and tells what they cost.
+fn put_least(field: &Field, room: &mut [i64]) -> u64
     requires { ⌜ length (now room) ≡ now field .wide * now field .high ⌝ }
     ensures { λ r. ⌜ Put-back (field-of (now (field .entry))) r (now (room .exit)) ⌝ }
 {
-    let steps = Steps::expected(field);
+    let steps = least_steps(field);
     follow(field.wide(), field.high(), &steps, room);
     match cost(field, room) {
         Some(cost) => cost,
@@ -39,12 +44,12 @@ fn answer(lent: &Lent<'_, '_, '_>, room: &mut [i64]) -> Done
 {
     match Field::take(lent, room.len() as u64) {
         Err(refusal) => Done::Refused(refusal.number()),
-        Ok(field) => Done::Back(follow_expected(&field, room)),
+        Ok(field) => Done::Back(put_least(&field, room)),
     }
 }
 
-// Puts turns back: leaves a whole number of turns for each place in the room, row by row, 0 for the first place, and answers what
-// they cost; or turns the field away.
+// Puts turns back: leaves a whole number of turns for each place in the room, row by row, 0 for the first place, than which no turns
+// cost less, and answers what they cost; or turns the field away.
 pub fn put_back(
     wide: u64,
     high: u64,
@@ -58,6 +63,9 @@ pub fn put_back(
     ensures back { λ r. ⌜ Back-says (verdict wide high turn (now (seen .entry)) (now (right .entry)) (now (below .entry)) (length (now (room .entry)))) (field-in wide high turn (now (seen .entry)) (now (right .entry)) (now (below .entry))) r (now (room .exit)) ⌝ }
     ensures first { λ _. ⌜ First-says (verdict wide high turn (now (seen .entry)) (now (right .entry)) (now (below .entry)) (length (now (room .entry)))) (now (room .exit)) ⌝ }
     ensures kept { λ _. ⌜ length (now (room .exit)) ≡ length (now (room .entry)) ⌝ }
+    ensures least { λ _. ⌜ Least-says (verdict wide high turn (now (seen .entry)) (now (right .entry)) (now (below .entry)) (length (now (room .entry)))) (field-in wide high turn (now (seen .entry)) (now (right .entry)) (now (below .entry))) (now (room .exit)) ⌝ }
+    ensures nothing { λ r. ⌜ Nothing-says (verdict wide high turn (now (seen .entry)) (now (right .entry)) (now (below .entry)) (length (now (room .entry)))) (field-in wide high turn (now (seen .entry)) (now (right .entry)) (now (below .entry))) r ⌝ }
+    ensures found { λ _. ⌜ Found-says (verdict wide high turn (now (seen .entry)) (now (right .entry)) (now (below .entry)) (length (now (room .entry)))) (field-in wide high turn (now (seen .entry)) (now (right .entry)) (now (below .entry))) (now (room .exit)) ⌝ }
 {
     answer(
         &Lent {

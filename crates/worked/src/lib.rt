@@ -81,9 +81,46 @@ mod tests {
     }
 
     #[test]
-    fn squares_that_are_off() -> Result<(), Fail> {
+    fn a_square_that_is_off_costs_a_turn() -> Result<(), Fail> {
         check_eq(squares_off(2, 2, &[0, 3, 9, 6]), Some(1))?;
-        check_eq(squares_off(3, 2, &[0, 3, 6, 8, 9, 7]), Some(1))
+        let mut room = [9; 4];
+        check_eq(at_one_price(2, 2, &[0, 3, 9, 6], &mut room), Done::Back(10))?;
+        check(room[0] == 0)?;
+        check_eq(squares_off(3, 2, &[0, 3, 6, 8, 9, 7]), Some(1))?;
+        let mut wider = [9; 6];
+        check_eq(at_one_price(3, 2, &[0, 3, 6, 8, 9, 7], &mut wider), Done::Back(10))?;
+        check(wider[0] == 0)
+    }
+
+    // The first step to the right is dear, so it is not the one that differs: its height is as expected.
+    #[test]
+    fn a_dear_step_is_spared() -> Result<(), Fail> {
+        let mut room = [9; 4];
+        check_eq(put_back(2, 2, 10, &[0, 3, 9, 6], &[4, 1, 1, 1], &[1, 1, 1, 1], &mut room), Done::Back(10))?;
+        check(room[0] == 0 && room[1] == 0)
+    }
+
+    // Steps that cost nothing take what is off: prices count.
+    #[test]
+    fn a_free_step_takes_it() -> Result<(), Fail> {
+        let mut room = [9; 4];
+        check_eq(put_back(2, 2, 10, &[0, 3, 9, 6], &[5, 1, 5, 1], &[5, 0, 1, 1], &mut room), Done::Back(0))?;
+        check(room[1] == 0 && room[2] == -1)
+    }
+
+    // A square that is off alone is joined to the outside, across its cheapest step.
+    #[test]
+    fn flows_leave_at_the_edge() -> Result<(), Fail> {
+        let mut room = [9; 4];
+        check_eq(put_back(2, 2, 10, &[0, 3, 9, 6], &[7, 9, 7, 9], &[7, 2, 9, 9], &mut room), Done::Back(20))
+    }
+
+    // Turns may be below 0.
+    #[test]
+    fn turns_below_nothing() -> Result<(), Fail> {
+        let mut room = [9; 2];
+        check_eq(at_one_price(2, 1, &[1, 9], &mut room), Done::Back(0))?;
+        check(room == [0, -1])
     }
 
     #[test]

@@ -1,0 +1,5 @@
+pub mod Counting
+pub mod Edges
+pub mod Grouping
+pub mod Placing
+pub mod Slots

@@ -1,0 +1,5 @@
+pub mod Falls
+pub mod Rooms
+pub mod Sent
+pub mod Begin
+pub mod Means

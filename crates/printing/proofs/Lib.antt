@@ -1,0 +1,5 @@
+pub mod Lines
+pub mod Reading
+pub mod Shading
+pub mod Squares
+pub mod Turned

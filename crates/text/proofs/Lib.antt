@@ -1,0 +1,5 @@
+pub mod Cuts
+pub mod Parts
+pub mod Reader
+pub mod Readings
+pub mod Rows

@@ -1,0 +1,5 @@
+pub mod Swap
+pub mod Steps
+pub mod Reach
+pub mod Potentials
+pub mod Walk
