@@ -40,11 +40,11 @@ module _ (es : Edges) (g : Graph) (arc : ℕ → ℕ) (b : Built es g arc) (w : 
           f a ≡ sumZ (es .count) (λ e. cond (eqb (arc e) a) (f a) (pos 0) +ℤ cond (eqb (g .pair (arc e)) a) (f a) (pos 0))
       by e k (inl p) =
           sym (sumZ-spike (es .count) e (λ e. cond (eqb (arc e) a) (f a) (pos 0) +ℤ cond (eqb (g .pair (arc e)) a) (f a) (pos 0)) k
-            (λ i m n. one-left _ _ (pos 0) (elsewhere (arc i) a (f a) (λ q. n (b .single i e m k (q ∙ sym p)))) (elsewhere (g .pair (arc i)) a (f a) (λ q. b .apart e i k m (p ∙ sym q))))
+          (λ i m n. one-left _ _ (pos 0) (elsewhere (arc i) a (f a) (λ q. n (b .single i e m k (q ∙ sym p)))) (elsewhere (g .pair (arc i)) a (f a) (λ q. b .apart e i k m (p ∙ sym q))))
           ∙ one-left _ _ (f a) (here (arc e) a (f a) p) (elsewhere (g .pair (arc e)) a (f a) (λ q. b .apart e e k k (p ∙ sym q))))
       by e k (inr p) =
           sym (sumZ-spike (es .count) e (λ e. cond (eqb (arc e) a) (f a) (pos 0) +ℤ cond (eqb (g .pair (arc e)) a) (f a) (pos 0)) k
-            (λ i m n. one-left _ _ (pos 0) (elsewhere (arc i) a (f a) (λ q. b .apart i e m k (q ∙ sym p))) (elsewhere (g .pair (arc i)) a (f a) (λ q. n (b .single i e m k (unpair i e m k (q ∙ sym p))))))
+          (λ i m n. one-left _ _ (pos 0) (elsewhere (arc i) a (f a) (λ q. b .apart i e m k (q ∙ sym p))) (elsewhere (g .pair (arc i)) a (f a) (λ q. n (b .single i e m k (unpair i e m k (q ∙ sym p))))))
           ∙ one-right _ _ (f a) (elsewhere (arc e) a (f a) (λ q. b .apart e e k k (q ∙ sym p))) (here (g .pair (arc e)) a (f a) p))
         where
           unpair : (i e : ℕ) → i < es .count → e < es .count → g .pair (arc i) ≡ g .pair (arc e) → arc i ≡ arc e
@@ -55,8 +55,8 @@ module _ (es : Edges) (g : Graph) (arc : ℕ → ℕ) (b : Built es g arc) (w : 
       sumZ-ext (g .arcs) f (λ a. sumZ (es .count) (λ e. cond (eqb (arc e) a) (f a) (pos 0) +ℤ cond (eqb (g .pair (arc e)) a) (f a) (pos 0))) (once f)
       ∙ sumZ-swap (g .arcs) (es .count) (λ a e. cond (eqb (arc e) a) (f a) (pos 0) +ℤ cond (eqb (g .pair (arc e)) a) (f a) (pos 0))
       ∙ sumZ-ext (es .count) (λ e. sumZ (g .arcs) (λ a. cond (eqb (arc e) a) (f a) (pos 0) +ℤ cond (eqb (g .pair (arc e)) a) (f a) (pos 0))) (λ e. f (arc e) +ℤ f (g .pair (arc e)))
-        (λ e l. sumZ-add (g .arcs) (λ a. cond (eqb (arc e) a) (f a) (pos 0)) (λ a. cond (eqb (g .pair (arc e)) a) (f a) (pos 0))
-          ∙ ap₂ (λ (i j : ℤ). i +ℤ j) (point-sum-at (g .arcs) (arc e) f (b .within e l)) (point-sum-at (g .arcs) (g .pair (arc e)) f (w (arc e) (b .within e l) .0)))
+      (λ e l. sumZ-add (g .arcs) (λ a. cond (eqb (arc e) a) (f a) (pos 0)) (λ a. cond (eqb (g .pair (arc e)) a) (f a) (pos 0))
+      ∙ ap₂ (λ (i j : ℤ). i +ℤ j) (point-sum-at (g .arcs) (arc e) f (b .within e l)) (point-sum-at (g .arcs) (g .pair (arc e)) f (w (arc e) (b .within e l) .0)))
 
 pub paired : (g : Graph) → Laws g → Paired g
 paired g w a l = (w .arc a l .pair, w .arc a l .back)
@@ -67,7 +67,7 @@ module _ (es : Edges) (g : Graph) (arc : ℕ → ℕ) (b : Built es g arc) (w : 
   outflow-edges x flows v =
       arcs-sum es g arc b (paired g w) (λ a. cond (eqb (g .tail a) v) (x a) (pos 0))
       ∙ sumZ-ext (es .count) (λ e. cond (eqb (g .tail (arc e)) v) (x (arc e)) (pos 0) +ℤ cond (eqb (g .tail (g .pair (arc e))) v) (x (g .pair (arc e))) (pos 0)) (λ e. taken es v e (x (arc e)))
-        (λ e l. ap₂ (λ (i j : ℤ). i +ℤ j) (ap (λ (t : ℕ). cond (eqb t v) (x (arc e)) (pos 0)) (b .tail e l)) (ap₂ (λ (t : ℕ) (z : ℤ). cond (eqb t v) z (pos 0)) (w .arc (arc e) (b .within e l) .turned ∙ b .head e l) (flows .opposite (arc e) (b .within e l)) ∙ turned (es .to e) (x (arc e))))
+      (λ e l. ap₂ (λ (i j : ℤ). i +ℤ j) (ap (λ (t : ℕ). cond (eqb t v) (x (arc e)) (pos 0)) (b .tail e l)) (ap₂ (λ (t : ℕ) (z : ℤ). cond (eqb t v) z (pos 0)) (w .arc (arc e) (b .within e l) .turned ∙ b .head e l) (flows .opposite (arc e) (b .within e l)) ∙ turned (es .to e) (x (arc e))))
     where
       turned : (t : ℕ) (z : ℤ) → cond (eqb t v) (negℤ z) (pos 0) ≡ negℤ (cond (eqb t v) z (pos 0))
       turned t z = by (eqb t v)

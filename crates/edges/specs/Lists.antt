@@ -20,7 +20,7 @@ edges-of l =
       cost = λ e. getD (now (l .cost)) e (pos 0);
       back = λ e. getD (now (l .back)) e (pos 0);
       limit = λ e. getD (now (l .limit)) e (pos 0);
-      back-limit = λ e. getD (now (l .«back_limit»)) e (pos 0)
+      back-limit = λ e. getD (now (l .«back_limit»)) e (pos 0);
     }
 
 abbrev pub arcs-of : ArcLists → Arcs
@@ -31,7 +31,7 @@ arcs-of l =
       pair = λ a. getD (now (l .pair)) a 0;
       cost = λ a. getD (now (l .cost)) a (pos 0);
       limit = λ a. getD (now (l .limit)) a (pos 0);
-      arc = λ e. getD (now (l .arc)) e 0
+      arc = λ e. getD (now (l .arc)) e 0;
     }
 
 -- a number of each kind for each edge

@@ -9,10 +9,11 @@ use Rattle.squares.specs.Squares.{places}
 
 pub field-fit : (f : Held) → Fit (field-of f)
 field-fit f = record {
-    turn-2 = f .«turn_fits» .0;
-    wide-1 = f .«wide_fits» .0;
-    high-1 = f .«high_fits» .0;
-    small = λ x y k l. f .«seen_fits» (y * f .wide + x) }
+  turn-2 = f .«turn_fits» .0;
+  wide-1 = f .«wide_fits» .0;
+  high-1 = f .«high_fits» .0;
+  small = λ x y k l. f .«seen_fits» (y * f .wide + x);
+}
 
 pub some-places : (f : Held) → 0 < places (field-of f)
 some-places f = omega (arith, mul-add-lt 0 (f .wide) 0 (f .high) (f .«high_fits» .0) (f .«wide_fits» .0))

@@ -25,9 +25,10 @@ use Rattle.unwrap.specs.Listed.{Listed, Put}
 pub listed-more : (f : Field) (e u v price : ℕ) (edge : Edge) (l m : Crossings) → Listed f e l → Put e edge l m → Joins (squares-edges f) e u v price →
     edge .from ≡ u → edge .to ≡ v → edge .price ≡ pos price → Listed f (e + 1) m
 listed-more f e u v price edge l m h p j a b c = record {
-    from-is = λ k q. ⊎-elim (λ s. subst (λ (i : ℕ). getD (now (m .from)) i 0 ≡ squares-edges f .from i) (sym s) (p .from-e ∙ a ∙ sym (j .from))) (λ s. p .from-other k s ∙ h .from-is k (omega arith)) (cases-eq k e);
-    to-is = λ k q. ⊎-elim (λ s. subst (λ (i : ℕ). getD (now (m .to)) i 0 ≡ squares-edges f .to i) (sym s) (p .to-e ∙ b ∙ sym (j .to))) (λ s. p .to-other k s ∙ h .to-is k (omega arith)) (cases-eq k e);
-    price-is = λ k q. ⊎-elim (λ s. subst (λ (i : ℕ). getD (now (m .price)) i (pos 0) ≡ squares-edges f .cost i) (sym s) (p .price-e ∙ c ∙ sym (j .cost))) (λ s. p .price-other k s ∙ h .price-is k (omega arith)) (cases-eq k e) }
+  from-is = λ k q. ⊎-elim (λ s. subst (λ (i : ℕ). getD (now (m .from)) i 0 ≡ squares-edges f .from i) (sym s) (p .from-e ∙ a ∙ sym (j .from))) (λ s. p .from-other k s ∙ h .from-is k (omega arith)) (cases-eq k e);
+  to-is = λ k q. ⊎-elim (λ s. subst (λ (i : ℕ). getD (now (m .to)) i 0 ≡ squares-edges f .to i) (sym s) (p .to-e ∙ b ∙ sym (j .to))) (λ s. p .to-other k s ∙ h .to-is k (omega arith)) (cases-eq k e);
+  price-is = λ k q. ⊎-elim (λ s. subst (λ (i : ℕ). getD (now (m .price)) i (pos 0) ≡ squares-edges f .cost i) (sym s) (p .price-e ∙ c ∙ sym (j .cost))) (λ s. p .price-other k s ∙ h .price-is k (omega arith)) (cases-eq k e);
+}
 
 column-in : (f : Field) (p : ℕ) → 1 ≤ f .wide → p % f .wide < f .wide
 column-in f p l = mod-below p (f .wide) l

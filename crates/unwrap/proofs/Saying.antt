@@ -67,12 +67,12 @@ says-nothing w h t ss rs bs room (Back c) left (j, (f, holds, p)) =
     subst (λ (u : Option Refusal). Nothing-says u (field-in w h t ss rs bs) (Back c)) (judged-is w h t ss rs bs (length room) None j)
     (λ back. ap Back (none back))
   where
-  none : All-come-back (field-in w h t ss rs bs) → c ≡ 0
-  none back =
-      let free = costs-nothing (field-in w h t ss rs bs) (fit-in w h t ss rs bs f holds) .0 back in
-      let least = subst (λ (k : Field). Least k (turns-in (k .wide) left)) (holds-is w h t ss rs bs f holds) (p .least) (free .0) in
-      let told = p .cost-is ∙ ap (λ (k : Field). cost k (turns-in (k .wide) left)) (holds-is w h t ss rs bs f holds) in
-      omega (arith, free .1)
+    none : All-come-back (field-in w h t ss rs bs) → c ≡ 0
+    none back =
+        let free = costs-nothing (field-in w h t ss rs bs) (fit-in w h t ss rs bs f holds) .0 back in
+        let least = subst (λ (k : Field). Least k (turns-in (k .wide) left)) (holds-is w h t ss rs bs f holds) (p .least) (free .0) in
+        let told = p .cost-is ∙ ap (λ (k : Field). cost k (turns-in (k .wide) left)) (holds-is w h t ss rs bs f holds) in
+        omega (arith, free .1)
 
 pub says-found : (w h t : ℕ) (ss rs bs : List ℕ) (room : List ℤ) (r : Done) (left : List ℤ) → Answered w h t ss rs bs room r left →
     Found-says (verdict w h t ss rs bs (length room)) (field-in w h t ss rs bs) left
@@ -81,4 +81,4 @@ says-found w h t ss rs bs room (Refused n) left ((why, j, e), s) =
 says-found w h t ss rs bs room (Back c) left (j, (f, holds, p)) =
     subst (λ (u : Option Refusal). Found-says u (field-in w h t ss rs bs) left) (judged-is w h t ss rs bs (length room) None j)
     (λ priced s a b. found-again (field-in w h t ss rs bs) s (turns-in w left) (fit-in w h t ss rs bs f holds) priced a b
-      (subst (λ (k : Field). Least k (turns-in (k .wide) left)) (holds-is w h t ss rs bs f holds) (p .least)))
+    (subst (λ (k : Field). Least k (turns-in (k .wide) left)) (holds-is w h t ss rs bs f holds) (p .least)))

@@ -27,18 +27,20 @@ units f n e q h = sum-ext n _ _ (λ v l. ap up (h v l)) ∙ ap (λ (k : ℕ). su
 
 pub balanced-of : (f : Field) (n : ℕ) (e : ℕ → ℤ) → Fit f → n ≡ places f → places f ≤ 4096 → ((v : ℕ) → v < n → e v ≡ supply-of f v) → Balanced n e
 balanced-of f n e fit q few h = record {
-    even = sumZ-ext n e (supply-of f) h ∙ ap (λ (k : ℕ). sumZ k (supply-of f)) q ∙ supplies-even f;
-    few = omega (arith, units f n e q h, supplies-few f fit .0) }
+  even = sumZ-ext n e (supply-of f) h ∙ ap (λ (k : ℕ). sumZ k (supply-of f)) q ∙ supplies-even f;
+  few = omega (arith, units f n e q h, supplies-few f fit .0);
+}
 
 pub crossed-of : (f : Field) (g : Graph) (arc : ℕ → ℕ) (e : ℕ → ℤ) (s : State) (place : ℕ → ℕ) (r : Answer) → Fit f → Built (squares-edges f) g arc → Laws g → g .nodes ≡ places f → places f ≤ 4096 →
     ((v : ℕ) → v < g .nodes → e v ≡ supply-of f v) → Solved g e s place r → Crossed f arc (s .flow)
 unfolding squares-edges
 crossed-of f g arc e s place r fit b w nodes few given done = record {
-    small = small-all;
-    least = solved-is-least f g arc e s place r fit b w nodes given (done .flows) (done .priced) (done .supplies) (done .moved) (done .answer) .least }
+  small = small-all;
+  least = solved-is-least f g arc e s place r fit b w nodes given (done .flows) (done .priced) (done .supplies) (done .moved) (done .answer) .least;
+}
   where
-  small-all : (i : ℕ) → i < places f + places f → natAbs (s .flow (arc i)) ≤ 4096
-  small-all i l =
-      let k = b .within i l in
-      let none = starts-empty f g arc b in
-      omega (arith, ints, done .moved (arc i) k, none .0, none .1 w (arc i) k, units f (g .nodes) e nodes given, supplies-few f fit .0)
+    small-all : (i : ℕ) → i < places f + places f → natAbs (s .flow (arc i)) ≤ 4096
+    small-all i l =
+        let k = b .within i l in
+        let none = starts-empty f g arc b in
+        omega (arith, ints, done .moved (arc i) k, none .0, none .1 w (arc i) k, units f (g .nodes) e nodes given, supplies-few f fit .0)

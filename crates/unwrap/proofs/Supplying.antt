@@ -33,10 +33,11 @@ supplying-none f xs = record { is = sym (sumZ-none (square-supply f)); small = o
 pub supplying-more : (f : Field) (xs : List ℤ) (v : ℕ) (total units then : ℤ) → Fit f → Supplying f xs v total → v < length xs → units ≡ square-supply f v → then ≡ total +ℤ units →
     Supplying f (set xs v units) (v + 1) then
 supplying-more f xs v total units then fit s l e t = record {
-    is = omega (arith, ints, s .is, sumZ-more v (square-supply f));
-    small = omega (arith, ints, s .small, square-supply-small f v fit);
-    before = λ u k. ⊎-elim (λ q. subst (λ (i : ℕ). getD (set xs v units) i (pos 0) ≡ square-supply f i) (sym q) (getD-set-same xs v units (pos 0) l ∙ e))
-      (λ q. getD-set-other xs v u units (pos 0) q ∙ s .before u (omega arith)) (cases-eq u v) }
+  is = omega (arith, ints, s .is, sumZ-more v (square-supply f));
+  small = omega (arith, ints, s .small, square-supply-small f v fit);
+  before = λ u k. ⊎-elim (λ q. subst (λ (i : ℕ). getD (set xs v units) i (pos 0) ≡ square-supply f i) (sym q) (getD-set-same xs v units (pos 0) l ∙ e))
+      (λ q. getD-set-other xs v u units (pos 0) q ∙ s .before u (omega arith)) (cases-eq u v);
+}
 
 pub supplying-all : (f : Field) (xs : List ℤ) (n : ℕ) (total outside : ℤ) → Supplying f xs n total → n ≡ places f → n ≡ length xs → 0 < n → outside ≡ negℤ total →
     (v : ℕ) → v < places f → getD (set xs 0 outside) v (pos 0) ≡ supply-of f v

@@ -54,8 +54,23 @@ fn cross_squares(field: &Field, net: &Network, arc: &[usize], steps: &mut Steps)
     let mut via = [0usize; 4096];
     let mut place = [0usize; 4096];
     let mut order = [0usize; 4096];
-    let mut flow = Flow { flow: &mut across[0..arcs], excess: &mut excess[0..n], potential: &mut potential[0..n] };
-    let mut search = Search { label: &mut label[0..n], via: &mut via[0..n], place: &mut place[0..n], order: &mut order[0..n], source: 0, reached: 0, seen: 0, level: 0, bound: 0, target: 0 };
+    let mut flow = Flow {
+        flow: &mut across[0..arcs],
+        excess: &mut excess[0..n],
+        potential: &mut potential[0..n],
+    };
+    let mut search = Search {
+        label: &mut label[0..n],
+        via: &mut via[0..n],
+        place: &mut place[0..n],
+        order: &mut order[0..n],
+        source: 0,
+        reached: 0,
+        seen: 0,
+        level: 0,
+        bound: 0,
+        target: 0,
+    };
     settle_squares(field, net, arc, &mut flow, &mut search);
     add_both(n, arc, flow.flow, steps);
 }
@@ -78,11 +93,33 @@ fn settle_edges(field: &Field, edges: &EdgeList, steps: &mut Steps)
     let mut cost = [0i64; 16384];
     let mut limit = [0i64; 16384];
     let mut arc = [0usize; 8192];
-    let mut lists = ArcLists { tail: &mut tail[0..arcs], head: &mut head[0..arcs], pair: &mut pair[0..arcs], cost: &mut cost[0..arcs], limit: &mut limit[0..arcs], arc: &mut arc[0..n + n] };
+    let mut lists = ArcLists {
+        tail: &mut tail[0..arcs],
+        head: &mut head[0..arcs],
+        pair: &mut pair[0..arcs],
+        cost: &mut cost[0..arcs],
+        limit: &mut limit[0..arcs],
+        arc: &mut arc[0..n + n],
+    };
     let heads = &mut first[0..n + 1];
     group(edges, heads, &mut next[0..n], &mut lists);
-    let ArcLists { tail, head, pair, cost, limit, arc } = lists;
-    let net = Network { nodes: n, first: heads, tail, head, pair, cost, limit };
+    let ArcLists {
+        tail,
+        head,
+        pair,
+        cost,
+        limit,
+        arc,
+    } = lists;
+    let net = Network {
+        nodes: n,
+        first: heads,
+        tail,
+        head,
+        pair,
+        cost,
+        limit,
+    };
     cross_squares(field, &net, arc, steps);
 }
 
@@ -97,12 +134,23 @@ pub fn least_steps(field: &Field) -> Steps
     let mut price = [0i64; 8192];
     // More than can ever go along an edge.
     let limit = [1152921504606846976i64; 8192];
-    let mut crossings = Crossings { from: &mut from[0..edges], to: &mut to[0..edges], price: &mut price[0..edges] };
+    let mut crossings = Crossings {
+        from: &mut from[0..edges],
+        to: &mut to[0..edges],
+        price: &mut price[0..edges],
+    };
     list_edges(field, &mut crossings);
     let Crossings { from, to, price } = crossings;
     let price: &[i64] = price;
     let limit = &limit[0..edges];
-    let list = EdgeList { from, to, cost: price, back: price, limit, back_limit: limit };
+    let list = EdgeList {
+        from,
+        to,
+        cost: price,
+        back: price,
+        limit,
+        back_limit: limit,
+    };
     settle_edges(field, &list, &mut steps);
     steps
 }

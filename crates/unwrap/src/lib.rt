@@ -6,11 +6,13 @@ ghost use Rattle.grid.specs.Field.{field-in};
 ghost use Rattle.grid.specs.Model.{field-of};
 ghost use Rattle.grid.specs.Verdict.{verdict};
 ghost use Rattle.unwrap.specs.Entry.{Refused-says, Back-says, First-says, Least-says, Nothing-says, Found-says, Put-back, Answered};
+
 mod cross;
 mod least;
 mod list;
 mod settle;
 mod supply;
+
 use crate::least::least_steps;
 use grid::field::Field;
 use grid::verdict::Lent;

@@ -46,7 +46,11 @@ fn edge_right(field: &Field, place: usize) -> Edge
     let x = place % wide;
     let y = place / wide;
     let price = field.price_right(place).unwrap_or(0);
-    Edge { from: node(wide, high, x + 1, y + 1), to: node(wide, high, x + 1, y), price: price as i64 }
+    Edge {
+        from: node(wide, high, x + 1, y + 1),
+        to: node(wide, high, x + 1, y),
+        price: price as i64,
+    }
 }
 
 // The edge across the step down from a place: from the square to the left of the step to the one to the right.
@@ -61,7 +65,11 @@ fn edge_below(field: &Field, place: usize) -> Edge
     let x = place % wide;
     let y = place / wide;
     let price = field.price_below(place).unwrap_or(0);
-    Edge { from: node(wide, high, x, y + 1), to: node(wide, high, x + 1, y + 1), price: price as i64 }
+    Edge {
+        from: node(wide, high, x, y + 1),
+        to: node(wide, high, x + 1, y + 1),
+        price: price as i64,
+    }
 }
 
 impl Crossings<'_> {

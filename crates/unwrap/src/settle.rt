@@ -16,7 +16,13 @@ use network::Network;
 use ways::Search;
 
 // Settles what squares are off by along the cheapest edges. It always can, as no edge has a limit that counts.
-pub fn settle_squares(field: &Field, net: &Network, arc: &[usize], flow: &mut Flow, search: &mut Search)
+pub fn settle_squares(
+    field: &Field,
+    net: &Network,
+    arc: &[usize],
+    flow: &mut Flow,
+    search: &mut Search,
+)
     requires formed { ⌜ WellFormed (now net) ⌝ }
     requires nodes { ⌜ now net .nodes ≡ places (field-of (now field)) ⌝ }
     requires built { ⌜ Built (squares-edges (field-of (now field))) (graph (now net)) (λ e. getD (now arc) e 0) ⌝ }

@@ -88,7 +88,10 @@ mod tests {
         check(room[0] == 0)?;
         check_eq(squares_off(3, 2, &[0, 3, 6, 8, 9, 7]), Some(1))?;
         let mut wider = [9; 6];
-        check_eq(at_one_price(3, 2, &[0, 3, 6, 8, 9, 7], &mut wider), Done::Back(10))?;
+        check_eq(
+            at_one_price(3, 2, &[0, 3, 6, 8, 9, 7], &mut wider),
+            Done::Back(10),
+        )?;
         check(wider[0] == 0)
     }
 
@@ -96,7 +99,18 @@ mod tests {
     #[test]
     fn a_dear_step_is_spared() -> Result<(), Fail> {
         let mut room = [9; 4];
-        check_eq(put_back(2, 2, 10, &[0, 3, 9, 6], &[4, 1, 1, 1], &[1, 1, 1, 1], &mut room), Done::Back(10))?;
+        check_eq(
+            put_back(
+                2,
+                2,
+                10,
+                &[0, 3, 9, 6],
+                &[4, 1, 1, 1],
+                &[1, 1, 1, 1],
+                &mut room,
+            ),
+            Done::Back(10),
+        )?;
         check(room[0] == 0 && room[1] == 0)
     }
 
@@ -104,7 +118,18 @@ mod tests {
     #[test]
     fn a_free_step_takes_it() -> Result<(), Fail> {
         let mut room = [9; 4];
-        check_eq(put_back(2, 2, 10, &[0, 3, 9, 6], &[5, 1, 5, 1], &[5, 0, 1, 1], &mut room), Done::Back(0))?;
+        check_eq(
+            put_back(
+                2,
+                2,
+                10,
+                &[0, 3, 9, 6],
+                &[5, 1, 5, 1],
+                &[5, 0, 1, 1],
+                &mut room,
+            ),
+            Done::Back(0),
+        )?;
         check(room[1] == 0 && room[2] == -1)
     }
 
@@ -112,7 +137,18 @@ mod tests {
     #[test]
     fn flows_leave_at_the_edge() -> Result<(), Fail> {
         let mut room = [9; 4];
-        check_eq(put_back(2, 2, 10, &[0, 3, 9, 6], &[7, 9, 7, 9], &[7, 2, 9, 9], &mut room), Done::Back(20))
+        check_eq(
+            put_back(
+                2,
+                2,
+                10,
+                &[0, 3, 9, 6],
+                &[7, 9, 7, 9],
+                &[7, 2, 9, 9],
+                &mut room,
+            ),
+            Done::Back(20),
+        )
     }
 
     // Turns may be below 0.

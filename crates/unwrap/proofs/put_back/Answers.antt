@@ -11,5 +11,5 @@ returns c =
       kept = c .answer .kept .room;
       least = says-least (a .wide) (a .high) (a .turn) (a .seen .now) (a .right .now) (a .below .now) (a .room .now) (c .answer .result) (c .answer .last .room) (c .answer .ensures);
       nothing = says-nothing (a .wide) (a .high) (a .turn) (a .seen .now) (a .right .now) (a .below .now) (a .room .now) (c .answer .result) (c .answer .last .room) (c .answer .ensures);
-      found = says-found (a .wide) (a .high) (a .turn) (a .seen .now) (a .right .now) (a .below .now) (a .room .now) (c .answer .result) (c .answer .last .room) (c .answer .ensures)
+      found = says-found (a .wide) (a .high) (a .turn) (a .seen .now) (a .right .now) (a .below .now) (a .room .now) (c .answer .result) (c .answer .last .room) (c .answer .ensures);
     }

@@ -15,4 +15,5 @@ returns c =
     record {
       cost-is = c .in-Some .ensures tt .1;
       first = integrated-first (f .wide) (f .high) (steps .right) (steps .below) (c .follow .last .room) all (omega (arith, f .«wide_fits»)) (omega (arith, f .«high_fits»));
-      least = c .least-steps-steps .ensures .least _ (λ x y k l. all .at x y k l) }
+      least = c .least-steps-steps .ensures .least _ (λ x y k l. all .at x y k l);
+    }

@@ -56,9 +56,10 @@ add-both-requires c κs =
     let below-long : length (c .args .steps .now .below) ≡ 4096 = c .pre .long .1 in
     record {
       right = addable-right (field-of f) (graph (c .args .net .now)) (c .places-n .result) (c .args .arc .now) (c .settle-squares .last .flow .flow .now) (c .args .steps .now .right) (c .args .steps .now .below) (c .pre .built) (c .settle-squares .ensures .crossed) (c .pre .expected)
-    (c .places-n .ensures) (c .pre .edges) (c .settle-squares .ensures .fitting .flow) (omega (arith, few-places f, c .places-n .ensures));
+          (c .places-n .ensures) (c .pre .edges) (c .settle-squares .ensures .fitting .flow) (omega (arith, few-places f, c .places-n .ensures));
       below = addable-below (field-of f) (graph (c .args .net .now)) (c .places-n .result) (c .args .arc .now) (c .settle-squares .last .flow .flow .now) (c .args .steps .now .right) (c .args .steps .now .below) (c .pre .built) (c .settle-squares .ensures .crossed) (c .pre .expected)
-    (c .places-n .ensures) (c .pre .edges) (c .settle-squares .ensures .fitting .flow) (omega (arith, few-places f, c .places-n .ensures)) }
+          (c .places-n .ensures) (c .pre .edges) (c .settle-squares .ensures .fitting .flow) (omega (arith, few-places f, c .places-n .ensures));
+    }
 
 pub returns : need.returns
 returns c =

@@ -50,7 +50,9 @@ settle-edges-requires c κs =
         cost = long .price-long ∙ sym (long .from-long);
         back = long .price-long ∙ sym (long .from-long);
         limit = limit-long 8192 _ _ (omega arith) ∙ all ∙ sym (long .from-long);
-        back-limit = limit-long 8192 _ _ (omega arith) ∙ all ∙ sym (long .from-long) };
+        back-limit = limit-long 8192 _ _ (omega arith) ∙ all ∙ sym (long .from-long);
+      };
       squares = lists-are (field-of f) (c .list-edges .last .lists) _ long (c .list-edges .ensures .listed) (λ e l. limit-part 8192 _ e _ (omega arith) (omega arith));
       expected = c .expected-steps .ensures;
-      long = (search needs, search needs) }
+      long = (search needs, search needs);
+    }

@@ -73,7 +73,8 @@ group-requires c κs =
       few = fit .few-edges;
       between = λ i l. (omega (arith, fit .between i l, part-long 4096 n (omega arith)), omega (arith, fit .between i l, part-long 4096 n (omega arith)));
       room = record { tail = part-long 16384 (4 * n) (omega arith) ∙ omega arith; head = part-long 16384 (4 * n) (omega arith) ∙ omega arith; pair = part-long 16384 (4 * n) (omega arith) ∙ omega arith; cost = part-longZ 16384 (4 * n) (omega arith) ∙ omega arith; limit = part-longZ 16384 (4 * n) (omega arith) ∙ omega arith; arc = part-long 8192 (n + n) (omega arith) ∙ omega arith };
-      long = part-long 4097 (n + 1) (omega arith) ∙ omega (arith, part-long 4096 n (omega arith)) }
+      long = part-long 4097 (n + 1) (omega arith) ∙ omega (arith, part-long 4096 n (omega arith));
+    }
 
 pub cross-squares-requires : need.cross-squares-requires
 cross-squares-requires c κs =
@@ -96,10 +97,12 @@ cross-squares-requires c κs =
         pair-length = room .pair ∙ sym (room .tail);
         cost-length = room .cost ∙ sym (room .tail);
         limit-length = room .limit ∙ sym (room .tail);
-        laws = laws-at net _ (room .tail) (made .0) };
+        laws = laws-at net _ (room .tail) (made .0);
+      };
       nodes = is;
       built = built-of (field-of f) es _ (λ e. getD (c .group .last .arcs .arc .now) e 0) (c .pre .squares) (built-at es net (λ e. getD (c .group .last .arcs .arc .now) e 0) _ (room .tail) (made .1));
       edges = room .arc ∙ count ∙ omega arith;
       arcs = omega (arith, room .tail);
       expected = c .pre .expected;
-      long = c .pre .long }
+      long = c .pre .long;
+    }

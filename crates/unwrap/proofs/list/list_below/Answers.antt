@@ -13,8 +13,9 @@ loop-place-again c =
     let edge = c .edge-below .ensures in
     let long = subst (λ (n : ℕ). Long (n + n) (c .put .last .self)) (c .places-places .ensures) (c .put .ensures .long) in
     let put = subst (λ (n : ℕ). Put (n + c .loop-place .place) (c .edge-below .result) (c .loop-place .lists) (c .put .last .self)) (c .places-places .ensures) (c .put .ensures .put) in
-    let next : places (field-of f) + c .loop-place .place + 1 ≡ places (field-of f) + (c .loop-place .place + 1) = omega arith in
-    (long,
+    let next : places (field-of f) + c .loop-place .place + 1 ≡ places (field-of f) + (c .loop-place .place + 1) = omega arith in (
+      long,
       subst (λ (n : ℕ). Listed (field-of f) n (c .put .last .self)) next
-      (listed-more (field-of f) (places (field-of f) + c .loop-place .place) _ _ _ (c .edge-below .result) (c .loop-place .lists) (c .put .last .self) (c .loop-place .inv .1) put
-        (joins-below (field-of f) (c .loop-place .place) (f .«wide_fits» .0) (omega (arith, c .places-places .ensures))) (edge .from) (edge .to) (edge .price)))
+          (listed-more (field-of f) (places (field-of f) + c .loop-place .place) _ _ _ (c .edge-below .result) (c .loop-place .lists) (c .put .last .self) (c .loop-place .inv .1) put
+          (joins-below (field-of f) (c .loop-place .place) (f .«wide_fits» .0) (omega (arith, c .places-places .ensures))) (edge .from) (edge .to) (edge .price)),
+    )

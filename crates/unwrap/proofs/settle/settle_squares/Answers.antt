@@ -20,9 +20,11 @@ solve-requires c κs =
       fitting = record {
         flow = c .pre .fitting .flow;
         excess = c .supplies .kept .excess ∙ c .pre .fitting .excess;
-        potential = c .pre .fitting .potential };
+        potential = c .pre .fitting .potential;
+      };
       room = c .pre .room;
-      balanced = balanced-of (field-of f) n _ (field-fit f) (c .pre .nodes) (few-places f) (λ v l. c .supplies .ensures v (omega (arith, c .pre .nodes))) }
+      balanced = balanced-of (field-of f) n _ (field-fit f) (c .pre .nodes) (few-places f) (λ v l. c .supplies .ensures v (omega (arith, c .pre .nodes)));
+    }
 
 pub returns : need.returns
 returns c =
@@ -30,4 +32,5 @@ returns c =
     record {
       fitting = c .solve .ensures .fitting;
       crossed = crossed-of (field-of f) (graph (c .args .net .now)) (λ e. getD (c .args .arc .now) e 0) _ (state (c .solve .last .flow)) _ (c .solve .result) (field-fit f) (c .pre .built) (c .pre .formed .laws) (c .pre .nodes) (few-places f)
-      (λ v l. c .supplies .ensures v (omega (arith, c .pre .nodes))) (c .solve .ensures .solved) }
+          (λ v l. c .supplies .ensures v (omega (arith, c .pre .nodes))) (c .solve .ensures .solved);
+    }
