@@ -121,9 +121,9 @@ fn augment(net: &Network, flow: &mut Flow, search: &mut Search, source: usize) -
     true
 }
 
-/// Sends what is in excess along cheapest ways to where it lacks, until nothing is in excess or
-/// nothing more can go.
-pub fn settle(net: &Network, flow: &mut Flow, search: &mut Search) -> Answer
+// Sends what is in excess along cheapest ways to where it lacks, until nothing is in excess or
+// nothing more can go.
+fn settle(net: &Network, flow: &mut Flow, search: &mut Search) -> Answer
     requires formed { ⌜ WellFormed (now net) ⌝ }
     requires fitting { ⌜ Fitting (now net) (now flow) ⌝ }
     requires room { ⌜ Roomy (now net .nodes) (now search) ⌝ }
@@ -332,7 +332,8 @@ fn supplied(flow: &Flow) -> bool
 
 /// `solve` for any lent slices: what it asks for is tested first.
 pub fn try_solve(net: &Network, flow: &mut Flow, search: &mut Search) -> Result<Answer, Refusal>
-    ensures { λ r. ⌜ Cases r (λ a. Solved (graph (now (net .entry))) (state (now (flow .entry)) .excess) (state (now (flow .exit))) (tree (now (search .exit)) .place) a × Meaning (graph (now (net .entry))) (state (now (flow .entry)) .excess) (state (now (flow .exit)) .flow) a) (λ f. WellFormed (now (net .entry)) → Fitting (now (net .entry)) (now (flow .entry)) → Roomy (now (net .entry) .nodes) (now (search .entry)) → Balanced (now (net .entry) .nodes) (state (now (flow .entry)) .excess) → ⊥) ⌝ }
+    ensures solved { λ r. ⌜ Cases r (λ a. Solved (graph (now (net .entry))) (state (now (flow .entry)) .excess) (state (now (flow .exit))) (tree (now (search .exit)) .place) a × Meaning (graph (now (net .entry))) (state (now (flow .entry)) .excess) (state (now (flow .exit)) .flow) a) (λ f. WellFormed (now (net .entry)) → Fitting (now (net .entry)) (now (flow .entry)) → Roomy (now (net .entry) .nodes) (now (search .entry)) → Balanced (now (net .entry) .nodes) (state (now (flow .entry)) .excess) → ⊥) ⌝ }
+    ensures kept { λ r. ⌜ Cases r (λ _. Unit {0}) (λ _. (now (flow .exit) ≡ now (flow .entry)) × (now (search .exit) ≡ now (search .entry))) ⌝ }
 {
     if !well_formed(net) {
         return Err(Refusal::Network);

@@ -27,13 +27,29 @@ pub struct Flow<'a> {
     pub potential: &'a mut [i64],
 }
 
+// The sum of two numbers.
+fn plus(a: i64, b: i64) -> i64
+    requires { ⌜ natAbs a ≤ 2 ^ 62 ⌝ ∗ ⌜ natAbs b < 2 ^ 62 ⌝ }
+    ensures { λ r. ⌜ r ≡ (a +ℤ b) ⌝ }
+{
+    a + b
+}
+
+// Their difference.
+fn minus(a: i64, b: i64) -> i64
+    requires { ⌜ natAbs a ≤ 2 ^ 62 ⌝ ∗ ⌜ natAbs b < 2 ^ 62 ⌝ }
+    ensures { λ r. ⌜ r ≡ (a -ℤ b) ⌝ }
+{
+    a - b
+}
+
 /// Adds `d` to one element.
 pub fn add(xs: &mut [i64], i: usize, d: i64)
     requires { ⌜ i < length (now xs) ⌝ }
     requires { ⌜ natAbs (getD (now xs) i (pos 0)) ≤ 2 ^ 62 ⌝ ∗ ⌜ natAbs d < 2 ^ 62 ⌝ }
     ensures { λ _. ⌜ ((k : ℕ) → getD (now (xs .exit)) k (pos 0) ≡ (getD (now (xs .entry)) k (pos 0) +ℤ at i d k)) ⌝ }
 {
-    xs[i] += d;
+    xs[i] = plus(xs[i], d);
 }
 
 /// Takes `d` from one element.
@@ -42,7 +58,7 @@ pub fn take(xs: &mut [i64], i: usize, d: i64)
     requires { ⌜ natAbs (getD (now xs) i (pos 0)) ≤ 2 ^ 62 ⌝ ∗ ⌜ natAbs d < 2 ^ 62 ⌝ }
     ensures { λ _. ⌜ ((k : ℕ) → getD (now (xs .exit)) k (pos 0) ≡ (getD (now (xs .entry)) k (pos 0) -ℤ at i d k)) ⌝ }
 {
-    xs[i] -= d;
+    xs[i] = minus(xs[i], d);
 }
 
 impl Network<'_> {
@@ -78,7 +94,8 @@ impl Flow<'_> {
         requires bounded { ⌜ ((v : ℕ) → v < now net .nodes → natAbs (getD (now (now self .potential)) v (pos 0)) ≤ 2 ^ 31 * now net .nodes) ⌝ }
         ensures { λ r. ⌜ r ≡ reduced-cost (graph (now (net .entry))) (state (now (self .entry)) .flow) (state (now (self .entry)) .potential) a ⌝ }
     {
-        net.unit_cost(self.flow, a) + self.potential[net.tail[a]] - self.potential[net.head[a]]
+        let from = plus(net.unit_cost(self.flow, a), self.potential[net.tail[a]]);
+        minus(from, self.potential[net.head[a]])
     }
 
     /// How much goes along arc `a` before a unit more costs another amount, or nothing more goes.

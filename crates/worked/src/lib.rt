@@ -151,6 +151,29 @@ mod tests {
         )
     }
 
+    // Two squares side by side are off, one each way, and the step between them is dear: it is cheaper to join each to the outside
+    // than to the nearest.
+    #[test]
+    fn the_nearest_is_not_the_cheapest() -> Result<(), Fail> {
+        let seen = [6, 9, 0, 7, 3, 6];
+        check_eq(squares_off(3, 2, &seen), Some(2))?;
+        let mut room = [9; 6];
+        check_eq(at_one_price(3, 2, &seen, &mut room), Done::Back(10))?;
+        let ones = [1, 1, 1, 1, 1, 1];
+        check_eq(
+            put_back(3, 2, 10, &seen, &ones, &[1, 100, 1, 1, 1, 1], &mut room),
+            Done::Back(20),
+        )
+    }
+
+    // A column alone goes past a turn.
+    #[test]
+    fn columns_count() -> Result<(), Fail> {
+        let mut room = [9; 2];
+        check_eq(at_one_price(1, 2, &[9, 1], &mut room), Done::Back(0))?;
+        check(room == [0, 1])
+    }
+
     // Turns may be below 0.
     #[test]
     fn turns_below_nothing() -> Result<(), Fail> {
