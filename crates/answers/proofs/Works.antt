@@ -17,7 +17,7 @@ use Rattle.grid.specs.Verdict.{verdict}
 use Rattle.grid.specs.declared.refusal.Refusal.{Refusal}
 use Rattle.text.specs.Document.{Contents}
 use Rattle.text.specs.declared.document.Unread.the-variants.{Refused}
-use Rattle.printing.specs.Picture.{picture-text}
+use Rattle.pictures.specs.Picture.{picture-text}
 use Rattle.answers.specs.declared.Form.{Form}
 use Rattle.answers.specs.declared.View.{View}
 use Rattle.printing.specs.Heights.{heights-of}

@@ -23,7 +23,7 @@ use Rattle.text.specs.Document.{Contents}
 use Rattle.text.specs.declared.document.Unread.{Unread}
 use Rattle.text.specs.declared.document.Unread.the-variants.{Refused, Memory}
 use Rattle.printing.specs.Answer.{answer-text}
-use Rattle.printing.specs.Picture.{picture-text}
+use Rattle.pictures.specs.Picture.{picture-text}
 use Rattle.printing.specs.Heights.{heights-of}
 use Rattle.unwrap.specs.Entry.{Back-says, First-says, Least-says}
 use Rattle.unwrap.specs.declared.Done.{Done}

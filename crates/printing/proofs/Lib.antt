@@ -1,5 +1,4 @@
 pub mod Lines
 pub mod Reading
-pub mod Shading
 pub mod Squares
 pub mod Turned

@@ -1,7 +1,6 @@
 pub mod Answer
 pub mod Back
 pub mod Heights
-pub mod Picture
 pub mod Refused
 pub mod Rows
 pub mod Signs

@@ -1,8 +1,7 @@
-// Printing: rows of numbers, costs, signs, refusals and pictures.
+// Printing: rows of numbers, costs, signs and refusals.
 pub mod answer;
 pub mod back;
 pub mod heights;
-pub mod picture;
 pub mod refused;
 pub mod rows;
 pub mod signs;

@@ -6,8 +6,8 @@ ghost use lib.IntN.{pos};
 ghost use Rattle.std.specs.Of.String.{string-bytes};
 ghost use Rattle.std.specs.Of.Vec.{vec-items};
 ghost use Rattle.std.specs.Vec.{made};
-ghost use Rattle.printing.specs.Picture.{scaled, shade, least, greatest, shades, head-text, picture-text, Never-darker};
-use crate::rows::push_rows;
+ghost use Rattle.pictures.specs.Picture.{scaled, shade, least, greatest, shades, head-text, picture-text, Never-darker};
+use printing::rows::push_rows;
 use std::alloc::AllocError;
 use std::alloc::Global;
 

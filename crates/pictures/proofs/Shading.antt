@@ -15,7 +15,7 @@ use Rattle.std.proofs.shelf.Elements.{all-getD}
 use Rattle.std.proofs.shelf.Bits.{div-below, le-div}
 use Rattle.std.proofs.shelf.Signed.{ints, folded-minZ-bounds}
 use Rattle.std.proofs.shelf.Tests.{eqb-false, leb-true, leb-false}
-use Rattle.printing.specs.Picture.{scaled, shade, shades, least, greatest, Never-darker}
+use Rattle.pictures.specs.Picture.{scaled, shade, shades, least, greatest, Never-darker}
 
 pub folded-none : (f : ℤ → ℤ → ℤ) (zs : List ℤ) → length zs ≡ 0 → pos 0 ≡ folded f (getD zs 0 (pos 0)) zs
 folded-none f [] e = refl

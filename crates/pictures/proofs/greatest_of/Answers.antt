@@ -8,8 +8,8 @@ use Rattle.std.specs.Numbers.{maxZ}
 use Rattle.std.proofs.shelf.Lists.{take-all}
 use Rattle.std.proofs.shelf.Signed.{toZ-ofZ}
 use Rattle.std.proofs.shelf.Sums.{folded-more}
-use Rattle.printing.proofs.Shading.{folded-none}
-use Rattle.printing.proofs.picture.greatest_of.Needs as need
+use Rattle.pictures.proofs.Shading.{folded-none}
+use Rattle.pictures.proofs.greatest_of.Needs as need
 
 pub returns-then-is-empty : need.returns-then-is-empty
 returns-then-is-empty c = folded-none maxZ (c .args .values .now) (true-eqb _ 0 (c .if-is-empty .ensures tt))

@@ -8,9 +8,9 @@ use mir.Syntax.{w64}
 use mir.Val.{SFits, toZ, ofZ}
 use Rattle.std.specs.Of.Vec.{vec-items}
 use Rattle.std.proofs.shelf.Signed.{toZ-ofZ, toZ-pos}
-use Rattle.printing.specs.Picture.{shade}
-use Rattle.printing.proofs.Shading.{mapped-more, mapped-all, shade-same, shades-same}
-use Rattle.printing.proofs.picture.shades_of.Needs as need
+use Rattle.pictures.specs.Picture.{shade}
+use Rattle.pictures.proofs.Shading.{mapped-more, mapped-all, shade-same, shades-same}
+use Rattle.pictures.proofs.shades_of.Needs as need
 
 pub loop-z-again : need.loop-z-again
 loop-z-again c =

@@ -8,8 +8,8 @@ use Rattle.std.specs.Numbers.{minZ}
 use Rattle.std.proofs.shelf.Lists.{take-all}
 use Rattle.std.proofs.shelf.Signed.{toZ-ofZ}
 use Rattle.std.proofs.shelf.Sums.{folded-more}
-use Rattle.printing.proofs.Shading.{folded-none}
-use Rattle.printing.proofs.picture.least_of.Needs as need
+use Rattle.pictures.proofs.Shading.{folded-none}
+use Rattle.pictures.proofs.least_of.Needs as need
 
 pub returns-then-is-empty : need.returns-then-is-empty
 returns-then-is-empty c = folded-none minZ (c .args .values .now) (true-eqb _ 0 (c .if-is-empty .ensures tt))

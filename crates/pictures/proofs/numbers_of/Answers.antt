@@ -2,8 +2,8 @@ use native.Mathlib.Omega.{arith}
 use lib.IntN.{pos}
 use Rattle.std.specs.Of.Vec.{vec-items}
 use Rattle.std.proofs.shelf.Signed.{ints}
-use Rattle.printing.proofs.Shading.{mapped-more, mapped-all}
-use Rattle.printing.proofs.picture.numbers_of.Needs as need
+use Rattle.pictures.proofs.Shading.{mapped-more, mapped-all}
+use Rattle.pictures.proofs.numbers_of.Needs as need
 
 pub loop-n-again : need.loop-n-again
 loop-n-again c =
