@@ -1,4 +1,5 @@
 // Small networks, solved.
+#![tactic(auto)]
 #[cfg(test)]
 mod tests {
     use flow::{Answer, try_solve};

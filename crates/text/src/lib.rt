@@ -1,4 +1,5 @@
 // Texts and fields: reading what a person wrote, and printing the answer.
+#![tactic(auto)]
 pub mod document;
 pub mod draft;
 pub mod kind;

@@ -1,4 +1,5 @@
 // Texts and their answers, by example.
+#![tactic(auto)]
 
 #[cfg(test)]
 mod tests {

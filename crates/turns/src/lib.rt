@@ -1,4 +1,5 @@
 // Turns, heights, and what they cost.
+#![tactic(auto)]
 pub mod cost;
 pub mod follow;
 pub mod height;

@@ -1,4 +1,5 @@
 // Worked examples: small fields at turn 10 whose answers are known.
+#![tactic(auto)]
 
 #[cfg(test)]
 mod tests {
