@@ -1,5 +1,6 @@
 // A field of wrapped numbers: places, steps, what is expected of a step, and the squares.
 #![tactic(auto)]
+
 pub mod field;
 pub mod refusal;
 pub mod rows;

@@ -14,7 +14,7 @@ returns-in-Err c =
 pub returns : goal.returns
 returns c =
     let l = c.args.lent.now in
-    solves Rings (lent_says l c.args.squares) c.in-ok-picture.field-0
+    solves Rings (lent_says l c.args.squares) c.in_ok-picture.field-0
     (judged_is l.wide l.high l.turn l.seen.now l.right.now l.below.now (length l.seen.now) None c.in-Ok.ensures.0)
-    (pictured_from l.wide c.wide.result l.high c.high.result c.as-slice.result.now (map pos l.seen.now) (string_bytes c.in-ok-picture.field-0) c.in-ok-picture.ensures
-    (c.wide.ensures ∙ c.in-Ok.ensures.1.wide_is) (c.high.ensures ∙ c.in-Ok.ensures.1.high_is) (c.as-slice.ensures.value ∙ c.in-ok-numbers.ensures))
+    (pictured_from l.wide c.wide.result l.high c.high.result c.as_slice.result.now (map pos l.seen.now) (string_bytes c.in_ok-picture.field-0) c.in_ok-picture.ensures
+    (c.wide.ensures ∙ c.in-Ok.ensures.1.wide_is) (c.high.ensures ∙ c.in-Ok.ensures.1.high_is) (c.as_slice.ensures.value ∙ c.in_ok-numbers.ensures))

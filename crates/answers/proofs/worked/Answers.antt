@@ -19,26 +19,26 @@ pub unreachable-requires : goal.unreachable-requires
 unreachable-requires c =
     let l = c.args.lent.now in
     let d = lent_says l false in
-    unrefused d d c.in-Refused.field-0 (vec_items c.in-ok-turns.field-0.turns)
+    unrefused d d c.in-Refused.field-0 (vec_items c.in_ok-turns.field-0.turns)
     (judged_is l.wide l.high l.turn l.seen.now l.right.now l.below.now (length l.seen.now) None c.in-Ok.ensures.0) refl
-    (put_back_squares d d c.in-ok-turns.field-0.done (Refused c.in-Refused.field-0) (vec_items c.in-ok-turns.field-0.turns) (vec_items c.in-ok-turns.field-0.turns) refl refl c.in-Refused.is refl c.in-ok-turns.ensures)
+    (put_back_squares d d c.in_ok-turns.field-0.done (Refused c.in-Refused.field-0) (vec_items c.in_ok-turns.field-0.turns) (vec_items c.in_ok-turns.field-0.turns) refl refl c.in-Refused.is refl c.in_ok-turns.ensures)
 
 pub returns : goal.returns
 returns c =
     let l = c.args.lent.now in
     let d = lent_says l c.args.squares in
     let f = c.in-Ok.field in
-    let ts = vec_items c.in-ok-turns.field-0.turns in
-    solves (Heights c.args.form) d c.in-ok-shown.field-0
+    let ts = vec_items c.in_ok-turns.field-0.turns in
+    solves (Heights c.args.form) d c.in_ok-shown.field-0
     (judged_is l.wide l.high l.turn l.seen.now l.right.now l.below.now (length l.seen.now) None c.in-Ok.ensures.0)
     (record {
       turns = ts;
       cost = c.in-Back.cost;
-      back = put_back_squares (lent_says l false) d c.in-ok-turns.field-0.done (Back c.in-Back.cost) (vec_items c.in-ok-turns.field-0.turns) ts refl refl c.in-Back.is
-          refl c.in-ok-turns.ensures;
-      printed = printed_from c.args.form (field_said d) (field_of f) c.as-slice-2.result.now (heights_of l.turn l.seen.now ts) c.in-Back.cost c.args.squares (string_bytes c.in-ok-shown.field-0)
-          c.in-ok-shown.ensures
+      back = put_back_squares (lent_says l false) d c.in_ok-turns.field-0.done (Back c.in-Back.cost) (vec_items c.in_ok-turns.field-0.turns) ts refl refl c.in-Back.is
+          refl c.in_ok-turns.ensures;
+      printed = printed_from c.args.form (field_said d) (field_of f) c.as_slice-2.result.now (heights_of l.turn l.seen.now ts) c.in-Back.cost c.args.squares (string_bytes c.in_ok-shown.field-0)
+          c.in_ok-shown.ensures
           (holds_is l.wide l.high l.turn l.seen.now l.right.now l.below.now f c.in-Ok.ensures.1)
-          (heights_from c.turn.result l.turn l.seen.now c.as-slice.result.now ts c.as-slice-2.result.now (vec_items c.in-ok-heights.heights) c.as-slice-2.ensures.value c.in-ok-heights.ensures
-          (c.turn.ensures ∙ c.in-Ok.ensures.1.turn_is) c.as-slice.ensures.value);
+          (heights_from c.turn.result l.turn l.seen.now c.as_slice.result.now ts c.as_slice-2.result.now (vec_items c.in_ok-heights.heights) c.as_slice-2.ensures.value c.in_ok-heights.ensures
+          (c.turn.ensures ∙ c.in-Ok.ensures.1.turn_is) c.as_slice.ensures.value);
     })

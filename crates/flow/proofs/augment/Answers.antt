@@ -34,8 +34,8 @@ lower-requires c =
       );
     }
 
-pub least-room-amount-requires : goal.least-room-amount-requires
-least-room-amount-requires c =
+pub least_room-amount-requires : goal.least_room-amount-requires
+least_room-amount-requires c =
     record {
       formed = c.requires.formed;
       fitting = record { flow = c.requires.fitting.flow; excess = c.requires.fitting.excess; potential = search rules };
@@ -53,8 +53,8 @@ send-requires c =
       room = c.find.ensures.room;
       sound = (lowered_sound (graph c.args.net.now) c.requires.formed.laws (state c.args.flow.now) c.requires.sound (tree c.find.new.self) c.find.ensures.searching.0 c.find.ensures.ended.0 (yes_lt c.find.new.self.bound far (sym c.find.ensures.ended.1 ∙ c.if-not-find.false)) (record { flow = (state c.args.flow.now).flow; excess = (state c.args.flow.now).excess; potential = (λ v. get_or c.lower.new.potential v (pos 0)) }) refl refl (rw c.requires.fitting.potential at c.lower.ensures));
       found = (lowered_found (graph c.args.net.now) c.requires.formed.laws (state c.args.flow.now) c.requires.sound (tree c.find.new.self) c.find.ensures.searching.0 c.find.ensures.ended.0 (yes_lt c.find.new.self.bound far (sym c.find.ensures.ended.1 ∙ c.if-not-find.false)) (record { flow = (state c.args.flow.now).flow; excess = (state c.args.flow.now).excess; potential = (λ v. get_or c.lower.new.potential v (pos 0)) }) refl refl (rw c.requires.fitting.potential at c.lower.ensures));
-      some = (omega (arith, ints, c.least-room-amount.ensures.some), omega (arith, ints, c.least-room-amount.ensures.some, c.least-room-amount.ensures.ends.0, c.requires.sound.few, excess_small (graph c.args.net.now) (state c.args.flow.now) c.requires.sound c.find.new.self.source c.find.ensures.searching.0.is_node));
-      arcs = λ u k n. omega (arith, ints, c.least-room-amount.ensures.arcs u k n);
+      some = (omega (arith, ints, c.least_room-amount.ensures.some), omega (arith, ints, c.least_room-amount.ensures.some, c.least_room-amount.ensures.ends.0, c.requires.sound.few, excess_small (graph c.args.net.now) (state c.args.flow.now) c.requires.sound c.find.new.self.source c.find.ensures.searching.0.is_node));
+      arcs = λ u k n. omega (arith, ints, c.least_room-amount.ensures.arcs u k n);
     }
 
 pub returns : goal.returns
@@ -63,6 +63,6 @@ returns c =
       fitting = c.send.ensures.fitting;
       room = c.find.ensures.room;
       arranged = c.find.ensures.searching.0.arranged;
-      sent = λ e. augmented (graph c.args.net.now) c.requires.formed.laws (state c.args.flow.now) (λ v. get_or c.lower.new.potential v (pos 0)) (lowered_sound (graph c.args.net.now) c.requires.formed.laws (state c.args.flow.now) c.requires.sound (tree c.find.new.self) c.find.ensures.searching.0 c.find.ensures.ended.0 (yes_lt c.find.new.self.bound far (sym c.find.ensures.ended.1 ∙ c.if-not-find.false)) (record { flow = (state c.args.flow.now).flow; excess = (state c.args.flow.now).excess; potential = (λ v. get_or c.lower.new.potential v (pos 0)) }) refl refl (rw c.requires.fitting.potential at c.lower.ensures)) (tree c.find.new.self) (lowered_found (graph c.args.net.now) c.requires.formed.laws (state c.args.flow.now) c.requires.sound (tree c.find.new.self) c.find.ensures.searching.0 c.find.ensures.ended.0 (yes_lt c.find.new.self.bound far (sym c.find.ensures.ended.1 ∙ c.if-not-find.false)) (record { flow = (state c.args.flow.now).flow; excess = (state c.args.flow.now).excess; potential = (λ v. get_or c.lower.new.potential v (pos 0)) }) refl refl (rw c.requires.fitting.potential at c.lower.ensures)) _ (omega (arith, ints, c.least-room-amount.ensures.some)) (omega (arith, ints, c.least-room-amount.ensures.ends.0)) (omega (arith, ints, c.least-room-amount.ensures.ends.1)) (state c.send.new.flow) c.send.ensures.potential c.send.ensures.walked;
+      sent = λ e. augmented (graph c.args.net.now) c.requires.formed.laws (state c.args.flow.now) (λ v. get_or c.lower.new.potential v (pos 0)) (lowered_sound (graph c.args.net.now) c.requires.formed.laws (state c.args.flow.now) c.requires.sound (tree c.find.new.self) c.find.ensures.searching.0 c.find.ensures.ended.0 (yes_lt c.find.new.self.bound far (sym c.find.ensures.ended.1 ∙ c.if-not-find.false)) (record { flow = (state c.args.flow.now).flow; excess = (state c.args.flow.now).excess; potential = (λ v. get_or c.lower.new.potential v (pos 0)) }) refl refl (rw c.requires.fitting.potential at c.lower.ensures)) (tree c.find.new.self) (lowered_found (graph c.args.net.now) c.requires.formed.laws (state c.args.flow.now) c.requires.sound (tree c.find.new.self) c.find.ensures.searching.0 c.find.ensures.ended.0 (yes_lt c.find.new.self.bound far (sym c.find.ensures.ended.1 ∙ c.if-not-find.false)) (record { flow = (state c.args.flow.now).flow; excess = (state c.args.flow.now).excess; potential = (λ v. get_or c.lower.new.potential v (pos 0)) }) refl refl (rw c.requires.fitting.potential at c.lower.ensures)) _ (omega (arith, ints, c.least_room-amount.ensures.some)) (omega (arith, ints, c.least_room-amount.ensures.ends.0)) (omega (arith, ints, c.least_room-amount.ensures.ends.1)) (state c.send.new.flow) c.send.ensures.potential c.send.ensures.walked;
       stuck = λ e. absurd (true≢false e);
     }

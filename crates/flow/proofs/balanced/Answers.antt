@@ -16,14 +16,14 @@ pub returns-then-e-ltminus576460752303423488 : goal.returns-then-e-ltminus576460
 returns-then-e-ltminus576460752303423488 c = record { yes = λ e. absurd (false≢true e); no = λ p. absurd (omega (arith, ints, supply_small (length c.args.excess.now) (λ u. get_or c.args.excess.now u (pos 0)) p c.loop-v.v c.loop-v-test.true, c.if-e-ltminus576460752303423488.true)) }
 
 pub returns-then-given-gt576460752303423488 : goal.returns-then-given-gt576460752303423488
-returns-then-given-gt576460752303423488 c = record { yes = λ e. absurd (false≢true e); no = λ p. absurd (omega (arith, ints, c.loop-v.invariant.0, c.loop-v.invariant.1, c.loop-v.invariant.2, c.loop-v.invariant.3, parts_more c.loop-v.v (λ u. up (get_or c.args.excess.now u (pos 0))), parts_more c.loop-v.v (λ u. up (neg_ℤ (get_or c.args.excess.now u (pos 0)))), c.given-at-given.ensures.value, c.given-at-given.ensures.small.0, c.given-at-given.ensures.small.1, c.lacking-at-lacking.ensures.value, c.lacking-at-lacking.ensures.small.0, c.lacking-at-lacking.ensures.small.1, c.if-given-gt576460752303423488.true, (balanced_parts (length c.args.excess.now) (λ u. get_or c.args.excess.now u (pos 0)) p (c.loop-v.v + 1) (omega (arith, c.loop-v-test.true))).0)) }
+returns-then-given-gt576460752303423488 c = record { yes = λ e. absurd (false≢true e); no = λ p. absurd (omega (arith, ints, c.loop-v.invariant.0, c.loop-v.invariant.1, c.loop-v.invariant.2, c.loop-v.invariant.3, parts_more c.loop-v.v (λ u. up (get_or c.args.excess.now u (pos 0))), parts_more c.loop-v.v (λ u. up (neg_ℤ (get_or c.args.excess.now u (pos 0)))), c.given_at-given.ensures.value, c.given_at-given.ensures.small.0, c.given_at-given.ensures.small.1, c.lacking_at-lacking.ensures.value, c.lacking_at-lacking.ensures.small.0, c.lacking_at-lacking.ensures.small.1, c.if-given-gt576460752303423488.true, (balanced_parts (length c.args.excess.now) (λ u. get_or c.args.excess.now u (pos 0)) p (c.loop-v.v + 1) (omega (arith, c.loop-v-test.true))).0)) }
 
 pub returns-then-lacking-gt576460752303423488 : goal.returns-then-lacking-gt576460752303423488
-returns-then-lacking-gt576460752303423488 c = record { yes = λ e. absurd (false≢true e); no = λ p. absurd (omega (arith, ints, c.loop-v.invariant.0, c.loop-v.invariant.1, c.loop-v.invariant.2, c.loop-v.invariant.3, parts_more c.loop-v.v (λ u. up (get_or c.args.excess.now u (pos 0))), parts_more c.loop-v.v (λ u. up (neg_ℤ (get_or c.args.excess.now u (pos 0)))), c.given-at-given.ensures.value, c.given-at-given.ensures.small.0, c.given-at-given.ensures.small.1, c.lacking-at-lacking.ensures.value, c.lacking-at-lacking.ensures.small.0, c.lacking-at-lacking.ensures.small.1, c.if-lacking-gt576460752303423488.true, (balanced_parts (length c.args.excess.now) (λ u. get_or c.args.excess.now u (pos 0)) p (c.loop-v.v + 1) (omega (arith, c.loop-v-test.true))).1)) }
+returns-then-lacking-gt576460752303423488 c = record { yes = λ e. absurd (false≢true e); no = λ p. absurd (omega (arith, ints, c.loop-v.invariant.0, c.loop-v.invariant.1, c.loop-v.invariant.2, c.loop-v.invariant.3, parts_more c.loop-v.v (λ u. up (get_or c.args.excess.now u (pos 0))), parts_more c.loop-v.v (λ u. up (neg_ℤ (get_or c.args.excess.now u (pos 0)))), c.given_at-given.ensures.value, c.given_at-given.ensures.small.0, c.given_at-given.ensures.small.1, c.lacking_at-lacking.ensures.value, c.lacking_at-lacking.ensures.small.0, c.lacking_at-lacking.ensures.small.1, c.if-lacking-gt576460752303423488.true, (balanced_parts (length c.args.excess.now) (λ u. get_or c.args.excess.now u (pos 0)) p (c.loop-v.v + 1) (omega (arith, c.loop-v-test.true))).1)) }
 
 pub loop-v-preserved : goal.loop-v-preserved
 loop-v-preserved c =
-    (omega (arith, ints, c.loop-v.invariant.0, c.loop-v.invariant.1, c.loop-v.invariant.2, c.loop-v.invariant.3, parts_more c.loop-v.v (λ u. up (get_or c.args.excess.now u (pos 0))), parts_more c.loop-v.v (λ u. up (neg_ℤ (get_or c.args.excess.now u (pos 0)))), c.given-at-given.ensures.value, c.given-at-given.ensures.small.0, c.given-at-given.ensures.small.1, c.lacking-at-lacking.ensures.value, c.lacking-at-lacking.ensures.small.0, c.lacking-at-lacking.ensures.small.1), omega (arith, ints, c.loop-v.invariant.0, c.loop-v.invariant.1, c.loop-v.invariant.2, c.loop-v.invariant.3, parts_more c.loop-v.v (λ u. up (get_or c.args.excess.now u (pos 0))), parts_more c.loop-v.v (λ u. up (neg_ℤ (get_or c.args.excess.now u (pos 0)))), c.given-at-given.ensures.value, c.given-at-given.ensures.small.0, c.given-at-given.ensures.small.1, c.lacking-at-lacking.ensures.value, c.lacking-at-lacking.ensures.small.0, c.lacking-at-lacking.ensures.small.1), omega (arith, ints, c.if-given-gt576460752303423488.false), omega (arith, ints, c.if-lacking-gt576460752303423488.false))
+    (omega (arith, ints, c.loop-v.invariant.0, c.loop-v.invariant.1, c.loop-v.invariant.2, c.loop-v.invariant.3, parts_more c.loop-v.v (λ u. up (get_or c.args.excess.now u (pos 0))), parts_more c.loop-v.v (λ u. up (neg_ℤ (get_or c.args.excess.now u (pos 0)))), c.given_at-given.ensures.value, c.given_at-given.ensures.small.0, c.given_at-given.ensures.small.1, c.lacking_at-lacking.ensures.value, c.lacking_at-lacking.ensures.small.0, c.lacking_at-lacking.ensures.small.1), omega (arith, ints, c.loop-v.invariant.0, c.loop-v.invariant.1, c.loop-v.invariant.2, c.loop-v.invariant.3, parts_more c.loop-v.v (λ u. up (get_or c.args.excess.now u (pos 0))), parts_more c.loop-v.v (λ u. up (neg_ℤ (get_or c.args.excess.now u (pos 0)))), c.given_at-given.ensures.value, c.given_at-given.ensures.small.0, c.given_at-given.ensures.small.1, c.lacking_at-lacking.ensures.value, c.lacking_at-lacking.ensures.small.0, c.lacking_at-lacking.ensures.small.1), omega (arith, ints, c.if-given-gt576460752303423488.false), omega (arith, ints, c.if-lacking-gt576460752303423488.false))
 
 -- after the last node
 ended : (v n : ℕ) (f : ℕ → ℕ) (z : ℤ) → v ≡ n → z ≡ pos (sum_to v f) → z ≡ pos (sum_to n f)

@@ -17,17 +17,17 @@ take-requires c =
       omega (arith, A.tail, c.loop-a.invariant.2.excess),
       (
         omega (arith, ints, c.loop-a.invariant.1 ((graph c.args.net.now).tail c.loop-a.a) A.tail, c.requires.small ((graph c.args.net.now).tail c.loop-a.a) A.tail, partly (graph c.args.net.now) c.requires.formed.laws ((graph c.args.net.now).tail c.loop-a.a) c.loop-a.a (omega (arith, c.loop-a-test.true))),
-        omega (arith, ints, c.first-flow-x.ensures, started_small (graph c.args.net.now) c.requires.formed.laws c.loop-a.a c.loop-a-test.true),
+        omega (arith, ints, c.first_flow-x.ensures, started_small (graph c.args.net.now) c.requires.formed.laws c.loop-a.a c.loop-a-test.true),
       ),
     )
 
 pub loop-a-preserved : goal.loop-a-preserved
 loop-a-preserved c = (
   λ b h. elim (cases_eq b c.loop-a.a) [
-    | inl e ↦ rw e (get_or-set_same _ c.loop-a.a _ (pos 0) (omega (arith, c.loop-a-test.true, c.loop-a.invariant.2.flow)) ∙ omega (arith, ints, c.first-flow-x.ensures, started_small (graph c.args.net.now) c.requires.formed.laws c.loop-a.a c.loop-a-test.true))
+    | inl e ↦ rw e (get_or-set_same _ c.loop-a.a _ (pos 0) (omega (arith, c.loop-a-test.true, c.loop-a.invariant.2.flow)) ∙ omega (arith, ints, c.first_flow-x.ensures, started_small (graph c.args.net.now) c.requires.formed.laws c.loop-a.a c.loop-a-test.true))
     | inr n ↦ get_or-set_other _ c.loop-a.a b _ (pos 0) n ∙ c.loop-a.invariant.0 b (omega (arith, h, n))
   ],
-  λ v h. omega (arith, ints, c.take.ensures v, c.loop-a.invariant.1 v h, sum_more c.loop-a.a (λ b. cond (eqb ((graph c.args.net.now).tail b) v) (started (graph c.args.net.now) b) (pos 0)), at_tail ((graph c.args.net.now).tail c.loop-a.a) v (to_z w64 (of_z w64 c.first-flow-x.result)) (started (graph c.args.net.now) c.loop-a.a) (omega (arith, ints, c.first-flow-x.ensures, started_small (graph c.args.net.now) c.requires.formed.laws c.loop-a.a c.loop-a-test.true))),
+  λ v h. omega (arith, ints, c.take.ensures v, c.loop-a.invariant.1 v h, sum_more c.loop-a.a (λ b. cond (eqb ((graph c.args.net.now).tail b) v) (started (graph c.args.net.now) b) (pos 0)), at_tail ((graph c.args.net.now).tail c.loop-a.a) v (to_z w64 (of_z w64 c.first_flow-x.result)) (started (graph c.args.net.now) c.loop-a.a) (omega (arith, ints, c.first_flow-x.ensures, started_small (graph c.args.net.now) c.requires.formed.laws c.loop-a.a c.loop-a-test.true))),
   search rules,
   c.loop-a.invariant.3,
 )

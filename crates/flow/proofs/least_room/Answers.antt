@@ -9,8 +9,8 @@ use Rattle.flow.specs.Answer.{Least}
 use Rattle.flow.proofs.Rooms.{least_begins, least_step, least_on, least_all}
 use Rattle.flow.proofs.least_room.Goals as goal
 
-pub overflow-sub-flow : goal.overflow-sub-flow
-overflow-sub-flow c = omega (arith, ints, excess_small (graph c.args.net.now) (state c.args.flow.now) c.requires.sound c.args.search.now.target c.requires.found.target, c.requires.sound.few)
+pub overflow_sub-flow : goal.overflow_sub-flow
+overflow_sub-flow c = omega (arith, ints, excess_small (graph c.args.net.now) (state c.args.flow.now) c.requires.sound c.args.search.now.target c.requires.found.target, c.requires.sound.few)
 
 pub loop-v-init : goal.loop-v-init
 loop-v-init c =
@@ -32,8 +32,8 @@ room-requires c =
       );
     }
 
-pub offset-bounds-net-a : goal.offset-bounds-net-a
-offset-bounds-net-a c = omega (arith, (least_step (graph c.args.net.now) c.requires.formed.laws (state c.args.flow.now) (tree c.args.search.now) c.requires.found c.loop-v.v _ c.loop-v.invariant c.loop-v-test.true).arc, c.requires.formed.laws.few_arcs)
+pub offset_bounds-net-a : goal.offset_bounds-net-a
+offset_bounds-net-a c = omega (arith, (least_step (graph c.args.net.now) c.requires.formed.laws (state c.args.flow.now) (tree c.args.search.now) c.requires.found c.loop-v.v _ c.loop-v.invariant c.loop-v-test.true).arc, c.requires.formed.laws.few_arcs)
 
 pub bounds-net-a : goal.bounds-net-a
 bounds-net-a c = (least_step (graph c.args.net.now) c.requires.formed.laws (state c.args.flow.now) (tree c.args.search.now) c.requires.found c.loop-v.v _ c.loop-v.invariant c.loop-v-test.true).arc

@@ -6,8 +6,8 @@ use Rattle.std.proofs.lemmas.List.Sums.{fold_more}
 use Rattle.pictures.proofs.Shading.{folded_none}
 use Rattle.pictures.proofs.least_of.Goals as goal
 
-pub returns-then-is-empty : goal.returns-then-is-empty
-returns-then-is-empty c = folded_none int_min c.args.values.now (true-eqb _ 0 c.if-is-empty.ensures)
+pub returns-then-is_empty : goal.returns-then-is_empty
+returns-then-is_empty c = folded_none int_min c.args.values.now (true-eqb _ 0 c.if-is_empty.ensures)
 
 pub loop-z-preserved : goal.loop-z-preserved
 loop-z-preserved c = grind (arith, to_z-of_z, fold_more)

@@ -10,9 +10,9 @@ loop-z-preserved c =
     let low : ℤ = to_z w64 (of_z w64 c.args.low) in
     let high : ℤ = to_z w64 (of_z w64 c.args.high) in
     let z : ℤ = get_or c.args.values.now c.loop-z.z-index (pos 0) in
-    let small : c.shade-of.result < 2 ^ 63 = omega (arith, c.shade-of.type-inv) in
-    mapped_more (λ (x : ℤ). pos (shade low high x)) c.args.values.now c.loop-z.z-index (pos 0) (to_z w64 c.shade-of.result) (vec_items c.loop-z.all) (vec_items c.push.new.self) c.loop-z-test.true
-    (to_z_pos w64 c.shade-of.result small ∙ ap pos (c.shade-of.ensures ∙ shade_same low low high high (to_z w64 (of_z w64 z)) z refl refl (to_z-of_z w64 z f))) c.in-ok-push.ensures.items c.loop-z.invariant
+    let small : c.shade_of.result < 2 ^ 63 = omega (arith, c.shade_of.type_inv) in
+    mapped_more (λ (x : ℤ). pos (shade low high x)) c.args.values.now c.loop-z.z-index (pos 0) (to_z w64 c.shade_of.result) (vec_items c.loop-z.all) (vec_items c.push.new.self) c.loop-z-test.true
+    (to_z_pos w64 c.shade_of.result small ∙ ap pos (c.shade_of.ensures ∙ shade_same low low high high (to_z w64 (of_z w64 z)) z refl refl (to_z-of_z w64 z f))) c.in_ok-push.ensures.items c.loop-z.invariant
 
 pub returns : goal.returns
 returns c =

@@ -6,11 +6,11 @@ use Rattle.trying.proofs.cost_of.Goals as goal
 pub unreachable-requires : goal.unreachable-requires
 unreachable-requires c =
     let f = c.args.field.now in
-    let long : length c.write-turns.new.room ≡ f.wide * f.high = search rules in
-    c.in-None.ensures (code_fits (field_of f) c.args.code c.write-turns.new.room long c.write-turns.ensures)
+    let long : length c.write_turns.new.room ≡ f.wide * f.high = search rules in
+    c.in-None.ensures (code_fits (field_of f) c.args.code c.write_turns.new.room long c.write_turns.ensures)
 
 pub returns : goal.returns
 returns c =
     let f = c.args.field.now in
-    let long : length c.write-turns.new.room ≡ f.wide * f.high = search rules in
-    c.in-Some.ensures.1 ∙ code_cost (field_of f) c.args.code c.write-turns.new.room long c.write-turns.ensures
+    let long : length c.write_turns.new.room ≡ f.wide * f.high = search rules in
+    c.in-Some.ensures.1 ∙ code_cost (field_of f) c.args.code c.write_turns.new.room long c.write_turns.ensures

@@ -8,5 +8,5 @@ loop-turns-init c = none_written _ _
 
 pub loop-turns-preserved : goal.loop-turns-preserved
 loop-turns-preserved c =
-    let fits : SFits w64 c.first-turns.result = search rules in
-    one_written _ _ c.loop-turns.rest _ _ c.loop-turns.invariant (omega arith) (to_z-of_z w64 c.first-turns.result fits ∙ c.first-turns.ensures)
+    let fits : SFits w64 c.first_turns.result = search rules in
+    one_written _ _ c.loop-turns.rest _ _ c.loop-turns.invariant (omega arith) (to_z-of_z w64 c.first_turns.result fits ∙ c.first_turns.ensures)

@@ -12,8 +12,8 @@ step c =
     (omega (arith, c.requires.upper_small 0 c.requires.some)) c.round_of.ensures in
     omega (arith, c.loop-x.invariant, c.counted-off.ensures)
 
-pub overflow-add-off : goal.overflow-add-off
-overflow-add-off c = omega (arith, step c, row_most c.args.turn c.args.upper.now c.args.lower.now (c.loop-x.x + 1), c.requires.few)
+pub overflow_add-off : goal.overflow_add-off
+overflow_add-off c = omega (arith, step c, row_most c.args.turn c.args.upper.now c.args.lower.now (c.loop-x.x + 1), c.requires.few)
 
 pub loop-x-preserved : goal.loop-x-preserved
 loop-x-preserved c = step c

@@ -4,8 +4,8 @@ use Rattle.sums.proofs.Ring.{nat_abs_mul}
 use Rattle.grid.proofs.Widths.{product_is}
 use Rattle.grid.proofs.steps.times.Goals as goal
 
-pub overflow-mul-result : goal.overflow-mul-result
-overflow-mul-result c =
+pub overflow_mul-result : goal.overflow_mul-result
+overflow_mul-result c =
     let p = product_is c.args.turns c.args.turn c.ranges.turns (omega arith) in
     let n = nat_abs_mul c.args.turns (pos c.args.turn) in
     omega (arith, ints)

@@ -9,7 +9,7 @@ loop-i-preserved c =
     let f : SFits w64 (get_or c.args.turns.now c.loop-i.i (pos 0)) = search rules in (
       heights_step c.args.turn c.args.seen.now c.args.turns.now (vec_items c.loop-i.heights) (vec_items c.push.new.self) _ c.loop-i.i c.height.result _ c.loop-i-test.true c.if-i-turns.true
           (to_z-of_z w64 (get_or c.args.turns.now c.loop-i.i (pos 0)) f) c.height.ensures
-          (c.in-ok-push.ensures.items ∙ ap (λ (z : ℤ). vec_items c.loop-i.heights ++ (z ∷ [])) (to_z-of_z w64 c.height.result (record { sfits = c.height.type-inv }))) c.loop-i.invariant.0,
+          (c.in_ok-push.ensures.items ∙ ap (λ (z : ℤ). vec_items c.loop-i.heights ++ (z ∷ [])) (to_z-of_z w64 c.height.result (record { sfits = c.height.type_inv }))) c.loop-i.invariant.0,
       omega (arith, c.loop-i-test.true),
       omega (arith, c.if-i-turns.true),
     )

@@ -9,6 +9,6 @@ same_line n m p q v w a b c = ap (λ (x : ℕ). line_text x p v) a ∙ ap (λ (x
 
 pub returns : goal.returns
 returns c =
-    IfOk-weaker c.line-of.result _ _
+    IfOk-weaker c.line_of.result _ _
     (λ s e. e ∙ same_line c.number.result (number c.args.refusal) c.place.result (place c.args.refusal) c.reason.result.now (reason_text c.args.refusal) c.number.ensures c.place.ensures c.reason.ensures)
-    c.line-of.ensures
+    c.line_of.ensures

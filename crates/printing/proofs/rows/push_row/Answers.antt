@@ -8,7 +8,7 @@ use Rattle.printing.proofs.rows.push_row.Goals as goal
 pub returns : goal.returns
 returns c =
     let f : SFits w64 (get_or c.args.row.now 0 (pos 0)) = search rules in
-    row_whole (string_bytes c.args.out.now) (string_bytes c.push-str.new.self) (string_bytes c.push-more.new.out) c.as-str.result.now c.args.row.now _
-    (omega (arith, false-eqb _ 0 c.if-is-empty.ensures)) (take_rest c.args.row.now 1)
-    (c.as-str.ensures.value ∙ c.in-ok-plain.ensures ∙ ap signed_decimal (to_z-of_z w64 (get_or c.args.row.now 0 (pos 0)) f))
-    c.in-ok-push-str.ensures.bytes c.in-ok-push-more.ensures
+    row_whole (string_bytes c.args.out.now) (string_bytes c.push_str.new.self) (string_bytes c.push_more.new.out) c.as_str.result.now c.args.row.now _
+    (omega (arith, false-eqb _ 0 c.if-is_empty.ensures)) (take_rest c.args.row.now 1)
+    (c.as_str.ensures.value ∙ c.in_ok-plain.ensures ∙ ap signed_decimal (to_z-of_z w64 (get_or c.args.row.now 0 (pos 0)) f))
+    c.in_ok-push_str.ensures.bytes c.in_ok-push_more.ensures

@@ -10,7 +10,7 @@ unreachable-requires c =
 
 pub returns : goal.returns
 returns c =
-    c.sign-of.ensures
+    c.sign_of.ensures
     ∙ ap (λ (k : ℕ). k ∷ [])
     (sign_is c.in-Some.off c.args.field.now.turn (round (field_of c.args.field.now) c.args.x c.args.y) c.args.field.now.turn_fits.0
     (sym (round_at (field_of c.args.field.now) c.args.x c.args.y _ c.requires.0 (ap (λ (k : ℕ). c.args.y * k + c.args.x) c.wide.ensures)) ∙ c.in-Some.ensures.1))

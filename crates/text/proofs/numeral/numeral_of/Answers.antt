@@ -2,14 +2,14 @@ use Rattle.std.proofs.Common.{arith, true-eqb, false-eqb}
 use Rattle.text.proofs.Readings.{numeral_none, numeral_more, numeral_stops, numeral_ends}
 use Rattle.text.proofs.numeral.numeral_of.Goals as goal
 
-pub returns-then-is-empty : goal.returns-then-is-empty
-returns-then-is-empty c = numeral_none c.args.word.now (true-eqb _ 0 c.if-is-empty.ensures)
+pub returns-then-is_empty : goal.returns-then-is_empty
+returns-then-is_empty c = numeral_none c.args.word.now (true-eqb _ 0 c.if-is_empty.ensures)
 
-pub returns-in-default : goal.returns-in-default
-returns-in-default c = numeral_stops c.args.word.now c.loop-b.b-index c.loop-b.n (omega arith) c.in-default.ensures c.loop-b.invariant.0
+pub returns-in_default : goal.returns-in_default
+returns-in_default c = numeral_stops c.args.word.now c.loop-b.b-index c.loop-b.n (omega arith) c.in_default.ensures c.loop-b.invariant.0
 
 pub loop-b-preserved : goal.loop-b-preserved
 loop-b-preserved c = (numeral_more c.args.word.now c.loop-b.b-index c.loop-b.n c.in-Some.d c.extended-n.result _ (omega arith) c.in-Some.ensures c.extended-n.ensures c.loop-b.invariant.0, omega (arith, c.extended-n.ensures))
 
 pub returns : goal.returns
-returns c = numeral_ends c.args.word.now c.loop-b.b-index c.loop-b.n (omega (arith, false-eqb _ 0 c.if-is-empty.ensures)) (omega arith) c.loop-b.invariant.1 c.loop-b.invariant.0
+returns c = numeral_ends c.args.word.now c.loop-b.b-index c.loop-b.n (omega (arith, false-eqb _ 0 c.if-is_empty.ensures)) (omega arith) c.loop-b.invariant.1 c.loop-b.invariant.0

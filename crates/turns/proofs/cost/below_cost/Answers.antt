@@ -9,8 +9,8 @@ use Rattle.turns.proofs.cost.below_cost.Goals as goal
 pub loop-y-init : goal.loop-y-init
 loop-y-init c = no_row_yet _
 
-pub between-cost-cost-requires : goal.between-cost-cost-requires
-between-cost-cost-requires c =
+pub between_cost-cost-requires : goal.between_cost-cost-requires
+between_cost-cost-requires c =
     let f = c.args.field.now in
     let upper = c.line.ensures in
     let lower = c.line-in-loop-y.ensures in (
@@ -19,15 +19,15 @@ between-cost-cost-requires c =
         lower = line_fits (field_of f) c.args.room.now (c.loop-y.y + 1) _ _ c.requires f.wide_fits.0 f.wide_fits.1 (omega (arith, c.high-y-end.ensures)) lower;
         even = omega (arith, upper.long, lower.long);
       },
-      prices_fit f.wide c.loop-y.y _ f.below _ c.below-row.ensures upper.long f.below_fits,
+      prices_fit f.wide c.loop-y.y _ f.below _ c.below_row.ensures upper.long f.below_fits,
     )
 
 pub loop-y-preserved : goal.loop-y-preserved
 loop-y-preserved c =
     let f = c.args.field.now in
-    let part = between_part (field_of f) c.args.room.now c.loop-y.y c.line.result.seen.now c.line.result.turns.now c.line-in-loop-y.result.seen.now c.line-in-loop-y.result.turns.now c.below-row.result.now c.line.ensures c.line-in-loop-y.ensures (λ x l. c.below-row.ensures.at x 0 l) in
-    let same = ap (λ (t : ℕ). between_cost t c.line.result.seen.now c.line.result.turns.now c.line-in-loop-y.result.seen.now c.line-in-loop-y.result.turns.now c.below-row.result.now) c.turn.ensures in
-    one_row_more _ c.loop-y.y c.loop-y.cost c.between-cost-cost.result c.loop-y.invariant (c.between-cost-cost.ensures.is ∙ same ∙ part) c.between-cost-cost.ensures.small
+    let part = between_part (field_of f) c.args.room.now c.loop-y.y c.line.result.seen.now c.line.result.turns.now c.line-in-loop-y.result.seen.now c.line-in-loop-y.result.turns.now c.below_row.result.now c.line.ensures c.line-in-loop-y.ensures (λ x l. c.below_row.ensures.at x 0 l) in
+    let same = ap (λ (t : ℕ). between_cost t c.line.result.seen.now c.line.result.turns.now c.line-in-loop-y.result.seen.now c.line-in-loop-y.result.turns.now c.below_row.result.now) c.turn.ensures in
+    one_row_more _ c.loop-y.y c.loop-y.cost c.between_cost-cost.result c.loop-y.invariant (c.between_cost-cost.ensures.is ∙ same ∙ part) c.between_cost-cost.ensures.small
 
 pub returns : goal.returns
 returns c =

@@ -8,4 +8,4 @@ pub returns : goal.returns
 returns c =
     let f = c.args.field.now in
     let p = cost_parts (field_of f) (turns_in f.wide c.args.room.now) in
-    (c.room-fits.ensures.0 c.if-not-room-fits.false, cc)
+    (c.room_fits.ensures.0 c.if-not-room_fits.false, cc)

@@ -3,8 +3,8 @@ use Rattle.grid.specs.Field.{turns_in}
 use Rattle.grid.proofs.Parts.{row_ends}
 use Rattle.turns.proofs.cost.line.Goals as goal
 
-pub row-of-requires : goal.row-of-requires
-row-of-requires c =
+pub row_of-requires : goal.row_of-requires
+row_of-requires c =
     let f = c.args.field.now in
     let e = row_ends f.wide f.high c.args.y c.requires.1 in
     rw c.wide.ensures (omega (arith, c.requires.0.long))
@@ -12,8 +12,8 @@ row-of-requires c =
 pub returns : goal.returns
 unfolding turns_in
 returns c =
-    let seen = c.seen-row.ensures in
-    let turns = rw c.wide.ensures at c.row-of.ensures in
+    let seen = c.seen_row.ensures in
+    let turns = rw c.wide.ensures at c.row_of.ensures in
     record {
       long = seen.long;
       even = turns.long;

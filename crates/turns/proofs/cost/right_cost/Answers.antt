@@ -9,20 +9,20 @@ use Rattle.turns.proofs.cost.right_cost.Goals as goal
 pub loop-y-init : goal.loop-y-init
 loop-y-init c = no_row_yet _
 
-pub row-cost-cost-requires : goal.row-cost-cost-requires
-row-cost-cost-requires c =
+pub row_cost-cost-requires : goal.row_cost-cost-requires
+row_cost-cost-requires c =
     let f = c.args.field.now in
     let l = c.line.ensures in (
       line_fits (field_of f) c.args.room.now c.loop-y.y _ _ c.requires f.wide_fits.0 f.wide_fits.1 (omega (arith, c.high-y-end.ensures)) l,
-      prices_fit f.wide c.loop-y.y _ f.right _ c.right-row.ensures l.long f.right_fits,
+      prices_fit f.wide c.loop-y.y _ f.right _ c.right_row.ensures l.long f.right_fits,
     )
 
 pub loop-y-preserved : goal.loop-y-preserved
 loop-y-preserved c =
     let f = c.args.field.now in
-    let part = row_part (field_of f) c.args.room.now c.loop-y.y c.line.result.seen.now c.line.result.turns.now c.right-row.result.now c.line.ensures (λ x l. c.right-row.ensures.at x 0 l) in
-    let same = ap (λ (t : ℕ). row_cost t c.line.result.seen.now c.line.result.turns.now c.right-row.result.now) c.turn.ensures in
-    one_row_more _ c.loop-y.y c.loop-y.cost c.row-cost-cost.result c.loop-y.invariant (c.row-cost-cost.ensures.is ∙ same ∙ part) c.row-cost-cost.ensures.small
+    let part = row_part (field_of f) c.args.room.now c.loop-y.y c.line.result.seen.now c.line.result.turns.now c.right_row.result.now c.line.ensures (λ x l. c.right_row.ensures.at x 0 l) in
+    let same = ap (λ (t : ℕ). row_cost t c.line.result.seen.now c.line.result.turns.now c.right_row.result.now) c.turn.ensures in
+    one_row_more _ c.loop-y.y c.loop-y.cost c.row_cost-cost.result c.loop-y.invariant (c.row_cost-cost.ensures.is ∙ same ∙ part) c.row_cost-cost.ensures.small
 
 pub returns : goal.returns
 returns c =

@@ -20,7 +20,7 @@ loop-place-preserved c =
     filled_more (HasBelow (field_of f)) (turns_below_from (field_of f)) c.loop-place.below c.loop-place.place c.turns_below.result _ c.loop-place.invariant
     (omega (arith, few_places f.wide f.high f.wide_fits.1 f.high_fits.1, c.places-place-end.ensures))
     c.turns_below.ensures (near_by_small f.turn _)
-    (omega (arith, ints, c.unwrap-or.ensures, value_small (HasBelow (field_of f) c.loop-place.place) c.turns_below.result (turns_below_from (field_of f) c.loop-place.place) c.turns_below.ensures (near_by_small f.turn _)))
+    (omega (arith, ints, c.unwrap_or.ensures, value_small (HasBelow (field_of f) c.loop-place.place) c.turns_below.result (turns_below_from (field_of f) c.loop-place.place) c.turns_below.ensures (near_by_small f.turn _)))
 
 pub returns : goal.returns
 returns c =

@@ -20,7 +20,7 @@ loop-place-preserved c =
     filled_more (HasRight (field_of f)) (turns_right_from (field_of f)) c.loop-place.right c.loop-place.place c.turns_right.result _ c.loop-place.invariant
     (omega (arith, few_places f.wide f.high f.wide_fits.1 f.high_fits.1, c.places-place-end.ensures))
     c.turns_right.ensures (near_by_small f.turn _)
-    (omega (arith, ints, c.unwrap-or.ensures, value_small (HasRight (field_of f) c.loop-place.place) c.turns_right.result (turns_right_from (field_of f) c.loop-place.place) c.turns_right.ensures (near_by_small f.turn _)))
+    (omega (arith, ints, c.unwrap_or.ensures, value_small (HasRight (field_of f) c.loop-place.place) c.turns_right.result (turns_right_from (field_of f) c.loop-place.place) c.turns_right.ensures (near_by_small f.turn _)))
 
 pub returns : goal.returns
 returns c =

@@ -8,26 +8,26 @@ use Rattle.turns.proofs.follow.follow.Goals as goal
 pub loop-y-init : goal.loop-y-init
 loop-y-init c = rows_none c.args.wide c.args.steps.now.right c.args.steps.now.below c.args.room.now
 
-pub row-of-requires : goal.row-of-requires
-row-of-requires c =
+pub row_of-requires : goal.row_of-requires
+row_of-requires c =
     let n : length c.args.steps.now.right ≡ 4096 = search rules in
     omega (arith, row_held c.args.wide c.args.high c.loop-y.y c.requires.0 c.requires.1 c.loop-y-test.true)
 
-pub slice-bounds-follow-row-end : goal.slice-bounds-follow-row-end
-slice-bounds-follow-row-end c =
+pub slice_bounds-follow_row-end : goal.slice_bounds-follow_row-end
+slice_bounds-follow_row-end c =
     let e = row_ends c.args.wide c.args.high c.loop-y.y c.loop-y-test.true in
     let n : length c.loop-y.room ≡ c.args.wide * c.args.high = omega (arith, c.loop-y.auto.room, c.requires.2) in
     search rules
 
-pub follow-row-requires : goal.follow-row-requires
-follow-row-requires c =
+pub follow_row-requires : goal.follow_row-requires
+follow_row-requires c =
     let n : length c.loop-y.room ≡ c.args.wide * c.args.high = omega (arith, c.loop-y.auto.room, c.requires.2) in
     let e = row_ends c.args.wide c.args.high c.loop-y.y c.loop-y-test.true in
     let part = (row_is c.args.wide c.loop-y.y c.loop-y.room (omega arith)).long in (
       omega (arith, c.loop-y.invariant.small, c.requires.1),
-      c.row-of.ensures.long ∙ sym part,
+      c.row_of.ensures.long ∙ sym part,
       omega (arith, part, c.requires.0),
-      row_steps_small c.args.wide c.loop-y.y c.args.steps.now.right c.row-of.result.now c.row-of.ensures c.requires.3,
+      row_steps_small c.args.wide c.loop-y.y c.args.steps.now.right c.row_of.result.now c.row_of.ensures c.requires.3,
     )
 
 pub bounds-steps-from : goal.bounds-steps-from
@@ -41,9 +41,9 @@ loop-y-preserved c =
     let e = row_ends w c.args.high y c.loop-y-test.true in
     let part = (row_is w y c.loop-y.room (omega arith)).long in
     let one : w ≡ y * w + w - y * w = omega arith in
-    let long : length c.follow-row.new.row ≡ w = c.follow-row.auto.row ∙ part in
-    rows_more w c.args.high _ c.args.steps.now.right c.args.steps.now.below c.loop-y.room c.row-of.result.now c.follow-row.new.row y _ _ c.loop-y.invariant c.loop-y-test.true n
-    c.row-of.ensures long c.follow-row.ensures.is c.follow-row.ensures.small c.requires.4 one
+    let long : length c.follow_row.new.row ≡ w = c.follow_row.auto.row ∙ part in
+    rows_more w c.args.high _ c.args.steps.now.right c.args.steps.now.below c.loop-y.room c.row_of.result.now c.follow_row.new.row y _ _ c.loop-y.invariant c.loop-y-test.true n
+    c.row_of.ensures long c.follow_row.ensures.is c.follow_row.ensures.small c.requires.4 one
     (omega (arith, ints, c.requires.4 (y * w), c.loop-y.invariant.small, c.requires.1))
 
 pub returns : goal.returns

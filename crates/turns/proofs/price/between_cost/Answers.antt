@@ -6,8 +6,8 @@ use Rattle.turns.proofs.price.between_cost.Goals as goal
 pub loop-x-init : goal.loop-x-init
 loop-x-init c = none_yet _
 
-pub overflow-add-cost : goal.overflow-add-cost
-overflow-add-cost c =
+pub overflow_add-cost : goal.overflow_add-cost
+overflow_add-cost c =
     let s = across_small c.args.turn c.args.upper.seen.now c.args.upper.turns.now c.args.lower.seen.now c.args.lower.turns.now c.args.prices.now c.loop-x.x c.requires.0 c.requires.1 (omega arith) in
     omega (arith, c.loop-x.invariant.small, c.across-cost.ensures, c.requires.0.upper.few)
 

@@ -8,50 +8,50 @@ use Rattle.edges.proofs.Grouping.{grouped_is_network}
 use Rattle.unwrap.proofs.Building.{fit_of, built_of, count_of, part_long, part_long_ℤ, laws_at, built_at}
 use Rattle.unwrap.proofs.least.settle_edges.Goals as goal
 
-pub slice-bounds-tail-end : goal.slice-bounds-tail-end
-slice-bounds-tail-end c =
+pub slice_bounds-tail-end : goal.slice_bounds-tail-end
+slice_bounds-tail-end c =
     let few = few_places c.args.field.now in
     let is = c.places-n.ensures in
     search rules
 
-pub slice-bounds-head-end : goal.slice-bounds-head-end
-slice-bounds-head-end c =
+pub slice_bounds-head-end : goal.slice_bounds-head-end
+slice_bounds-head-end c =
     let few = few_places c.args.field.now in
     let is = c.places-n.ensures in
     search rules
 
-pub slice-bounds-pair-end : goal.slice-bounds-pair-end
-slice-bounds-pair-end c =
+pub slice_bounds-pair-end : goal.slice_bounds-pair-end
+slice_bounds-pair-end c =
     let few = few_places c.args.field.now in
     let is = c.places-n.ensures in
     search rules
 
-pub slice-bounds-cost-end : goal.slice-bounds-cost-end
-slice-bounds-cost-end c =
+pub slice_bounds-cost-end : goal.slice_bounds-cost-end
+slice_bounds-cost-end c =
     let few = few_places c.args.field.now in
     let is = c.places-n.ensures in
     search rules
 
-pub slice-bounds-limit-end : goal.slice-bounds-limit-end
-slice-bounds-limit-end c =
+pub slice_bounds-limit-end : goal.slice_bounds-limit-end
+slice_bounds-limit-end c =
     let few = few_places c.args.field.now in
     let is = c.places-n.ensures in
     search rules
 
-pub slice-bounds-arc-end : goal.slice-bounds-arc-end
-slice-bounds-arc-end c =
+pub slice_bounds-arc-end : goal.slice_bounds-arc-end
+slice_bounds-arc-end c =
     let few = few_places c.args.field.now in
     let is = c.places-n.ensures in
     search rules
 
-pub slice-bounds-first-end : goal.slice-bounds-first-end
-slice-bounds-first-end c =
+pub slice_bounds-first-end : goal.slice_bounds-first-end
+slice_bounds-first-end c =
     let few = few_places c.args.field.now in
     let is = c.places-n.ensures in
     search rules
 
-pub slice-bounds-next-end : goal.slice-bounds-next-end
-slice-bounds-next-end c =
+pub slice_bounds-next-end : goal.slice_bounds-next-end
+slice_bounds-next-end c =
     let few = few_places c.args.field.now in
     let is = c.places-n.ensures in
     search rules
@@ -72,8 +72,8 @@ group-requires c =
       long = part_long 4097 (n + 1) (omega arith) ∙ omega (arith, part_long 4096 n (omega arith));
     }
 
-pub cross-squares-requires : goal.cross-squares-requires
-cross-squares-requires c =
+pub cross_squares-requires : goal.cross_squares-requires
+cross_squares-requires c =
     let f = c.args.field.now in
     let n = c.places-n.result in
     let few = few_places f in

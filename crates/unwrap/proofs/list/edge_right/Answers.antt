@@ -11,5 +11,5 @@ returns c =
     let h = c.high-high.ensures in
     let a = c.node.ensures in
     let b = c.node-2.ensures in
-    let told = c.unwrap-or-price.ensures ∙ price_told _ c.price-right.result _ c.price-right.ensures (row_in (field_of f) c.args.place f.wide_fits.0 c.requires) in
+    let told = c.unwrap_or-price.ensures ∙ price_told _ c.price_right.result _ c.price_right.ensures (row_in (field_of f) c.args.place f.wide_fits.0 c.requires) in
     record { from = cc; to = cc; price = omega (arith, ints, told, f.right_fits (c.args.place / f.wide * f.wide + c.args.place % f.wide)) }

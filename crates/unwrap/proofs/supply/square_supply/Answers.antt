@@ -28,14 +28,14 @@ first_of : (f : Held) (v w : ℕ) → w ≡ f.wide → Corner f.wide f.high (v %
     (v - w - 1 ≡ pred (v / f.wide) * f.wide + pred (v % f.wide)) × (w + 1 ≤ v)
 first_of f v w e k = (omega (arith, first_place (field_of f) v k), omega (arith, first_place (field_of f) v k))
 
-pub overflow-sub-v : goal.overflow-sub-v
-overflow-sub-v c =
+pub overflow_sub-v : goal.overflow_sub-v
+overflow_sub-v c =
     let f = c.args.field.now in
     let k = corner_of f c.args.v c.wide-wide.result c.wide-wide.ensures c.requires c.if-v-wide-eq0.false c.if-v-wide-eq0-2.false in
     omega (arith, first_of f c.args.v c.wide-wide.result c.wide-wide.ensures k)
 
-pub overflow-sub-v-2 : goal.overflow-sub-v-2
-overflow-sub-v-2 c =
+pub overflow_sub-v-2 : goal.overflow_sub-v-2
+overflow_sub-v-2 c =
     let f = c.args.field.now in
     let k = corner_of f c.args.v c.wide-wide.result c.wide-wide.ensures c.requires c.if-v-wide-eq0.false c.if-v-wide-eq0-2.false in
     omega (arith, first_of f c.args.v c.wide-wide.result c.wide-wide.ensures k)

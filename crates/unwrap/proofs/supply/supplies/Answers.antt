@@ -9,17 +9,17 @@ use Rattle.unwrap.proofs.supply.supplies.Goals as goal
 pub loop-v-init : goal.loop-v-init
 loop-v-init c = supplying_none (field_of c.args.field.now) c.args.excess.now
 
-pub overflow-add-total : goal.overflow-add-total
-overflow-add-total c =
+pub overflow_add-total : goal.overflow_add-total
+overflow_add-total c =
     let f = c.args.field.now in
-    omega (arith, ints, c.loop-v.invariant.small, c.square-supply-units.ensures, square_supply_small (field_of f) c.loop-v.v (field_fit f), few_places f, c.requires)
+    omega (arith, ints, c.loop-v.invariant.small, c.square_supply-units.ensures, square_supply_small (field_of f) c.loop-v.v (field_fit f), few_places f, c.requires)
 
 pub loop-v-preserved : goal.loop-v-preserved
 loop-v-preserved c =
     let f = c.args.field.now in
     let small = square_supply_small (field_of f) c.loop-v.v (field_fit f) in
     supplying_more (field_of f) c.loop-v.excess c.loop-v.v _ _ _ (field_fit f) c.loop-v.invariant (omega (arith, c.loop-v.auto.excess))
-    (omega (arith, ints, c.square-supply-units.ensures)) (omega (arith, ints, c.loop-v.invariant.small, c.square-supply-units.ensures, few_places f, c.requires))
+    (omega (arith, ints, c.square_supply-units.ensures)) (omega (arith, ints, c.loop-v.invariant.small, c.square_supply-units.ensures, few_places f, c.requires))
 
 pub bounds-excess-0 : goal.bounds-excess-0
 bounds-excess-0 c = omega (arith, c.loop-v.auto.excess, c.requires, some_places c.args.field.now)

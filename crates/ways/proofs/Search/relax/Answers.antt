@@ -7,8 +7,8 @@ use Rattle.ways.specs.Tree.{tree, InHand, Searching}
 use Rattle.ways.proofs.Steps.{sum_fits, level_fits, reduced_small, Onward, closed_arc, open_arc, offer_node}
 use Rattle.ways.proofs.Search.relax.Goals as goal
 
-pub overflow-add-d : goal.overflow-add-d
-overflow-add-d c =
+pub overflow_add-d : goal.overflow_add-d
+overflow_add-d c =
     omega (
       arith,
       ints,

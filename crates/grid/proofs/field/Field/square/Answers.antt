@@ -5,4 +5,4 @@ use Rattle.grid.proofs.field.Field.square.Goals as goal
 
 pub returns : goal.returns
 returns c =
-    ((omega arith, omega arith), round_is (field_of c.args.self.now) _ _ _ _ _ _ c.seen-at-a.ensures c.seen-at-b.ensures c.seen-at-c.ensures c.seen-at-d.ensures ∙ c.round_of.ensures)
+    ((omega arith, omega arith), round_is (field_of c.args.self.now) _ _ _ _ _ _ c.seen_at-a.ensures c.seen_at-b.ensures c.seen_at-c.ensures c.seen_at-d.ensures ∙ c.round_of.ensures)

@@ -7,11 +7,11 @@ use Rattle.grid.proofs.field.Field.squares_off.Goals as goal
 pub loop-y-init : goal.loop-y-init
 loop-y-init c = rows_none (field_of c.args.self.now)
 
-pub row-off-off-requires : goal.row-off-off-requires
-row-off-off-requires c =
+pub row_off-off-requires : goal.row_off-off-requires
+row_off-off-requires c =
     let f = c.args.self.now in
-    let upper = c.seen-row.ensures in
-    let lower = c.seen-row-in-loop-y.ensures in
+    let upper = c.seen_row.ensures in
+    let lower = c.seen_row-in-loop-y.ensures in
     record {
       some = omega (arith, upper.long, f.wide_fits);
       few = omega (arith, upper.long, f.wide_fits);
@@ -20,14 +20,14 @@ row-off-off-requires c =
       lower_small = λ k l. omega (arith, lower.at k 0 (omega (arith, upper.long)), f.seen_fits ((c.loop-y.y + 1) * f.wide + k));
     }
 
-step : (c : goal.After-row-off-off) → c.loop-y.off + c.row-off-off.result ≡ rows_to (field_of c.args.self.now) (c.loop-y.y + 1)
+step : (c : goal.After-row_off-off) → c.loop-y.off + c.row_off-off.result ≡ rows_to (field_of c.args.self.now) (c.loop-y.y + 1)
 step c =
-    let m = rows_more (field_of c.args.self.now) c.loop-y.y c.seen-row.result.now c.seen-row-in-loop-y.result.now
-    c.seen-row.ensures.long (λ x l. c.seen-row.ensures.at x 0 l) (λ x l. c.seen-row-in-loop-y.ensures.at x 0 l) in
-    omega (arith, c.loop-y.invariant, c.row-off-off.ensures)
+    let m = rows_more (field_of c.args.self.now) c.loop-y.y c.seen_row.result.now c.seen_row-in-loop-y.result.now
+    c.seen_row.ensures.long (λ x l. c.seen_row.ensures.at x 0 l) (λ x l. c.seen_row-in-loop-y.ensures.at x 0 l) in
+    omega (arith, c.loop-y.invariant, c.row_off-off.ensures)
 
-pub overflow-add-off : goal.overflow-add-off
-overflow-add-off c =
+pub overflow_add-off : goal.overflow_add-off
+overflow_add-off c =
     let f = c.args.self.now in
     omega (arith, step c, rows_most (field_of f) (c.loop-y.y + 1), mul-le (c.loop-y.y + 1) f.wide 64 64 (omega (arith, f.high_fits)) f.wide_fits.1)
 

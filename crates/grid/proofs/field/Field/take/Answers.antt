@@ -18,8 +18,8 @@ copied-requires-in-None-2 c =
     let t = c.in-None.ensures in
     omega (arith, few_places _ _ t.sized.wide_fits.1 t.sized.high_fits.1, t.below_fits.long)
 
-pub invariant-of-result : goal.invariant-of-result
-invariant-of-result c =
+pub invariant_of-result : goal.invariant_of-result
+invariant_of-result c =
     let t = c.in-None.ensures in (
       t.sized.wide_fits,
       (
