@@ -20,19 +20,11 @@ copied-requires-in-None-2 c =
 
 pub invariant_of-result : goal.invariant_of-result
 invariant_of-result c =
-    let t = c.in-None.ensures in (
-      t.sized.wide_fits,
-      (
-        t.sized.high_fits,
-        (
-          t.sized.turn_fits,
-          (
-            (λ k. omega (arith, c.copied.ensures k, small_everywhere _ _ _ t.seen_fits (omega arith) k)),
-            (
-              (λ k. omega (arith, c.copied-in-None.ensures k, small_everywhere _ _ _ t.right_fits (omega arith) k)),
-              ((λ k. omega (arith, c.copied-in-None-2.ensures k, small_everywhere _ _ _ t.below_fits (omega arith) k)), tt),
-            ),
-          ),
-        ),
-      ),
-    )
+    let t = c.in-None.ensures in record {
+      wide_fits = t.sized.wide_fits;
+      high_fits = t.sized.high_fits;
+      turn_fits = t.sized.turn_fits;
+      seen_fits = λ k. omega (arith, c.copied.ensures k, small_everywhere _ _ _ t.seen_fits (omega arith) k);
+      right_fits = λ k. omega (arith, c.copied-in-None.ensures k, small_everywhere _ _ _ t.right_fits (omega arith) k);
+      below_fits = λ k. omega (arith, c.copied-in-None-2.ensures k, small_everywhere _ _ _ t.below_fits (omega arith) k);
+    }
