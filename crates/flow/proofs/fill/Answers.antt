@@ -13,13 +13,13 @@ loop-a-init c = (λ b h. absurd (omega (arith, h)), λ v h. omega (arith, ints, 
 pub take-requires : goal.take-requires
 take-requires c =
     let A : Arc (graph c.args.net.now) c.loop-a.a = c.requires.formed.laws.arc c.loop-a.a c.loop-a-test.true in
-    let v : ℕ = (graph c.args.net.now).tail c.loop-a.a in (
-      omega (arith, A.tail, c.loop-a.invariant.2.excess),
-      (
+    let v : ℕ = (graph c.args.net.now).tail c.loop-a.a in record {
+      i_in_bounds = omega (arith, A.tail, c.loop-a.invariant.2.excess);
+      pos_bound = (
         omega (arith, ints, c.loop-a.invariant.1 ((graph c.args.net.now).tail c.loop-a.a) A.tail, c.requires.small ((graph c.args.net.now).tail c.loop-a.a) A.tail, partly (graph c.args.net.now) c.requires.formed.laws ((graph c.args.net.now).tail c.loop-a.a) c.loop-a.a (omega (arith, c.loop-a-test.true))),
         omega (arith, ints, c.first_flow-x.ensures, started_small (graph c.args.net.now) c.requires.formed.laws c.loop-a.a c.loop-a-test.true),
-      ),
-    )
+      );
+    }
 
 pub loop-a-preserved : goal.loop-a-preserved
 loop-a-preserved c = (

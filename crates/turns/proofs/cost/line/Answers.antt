@@ -6,8 +6,8 @@ use Rattle.turns.proofs.cost.line.Goals as goal
 pub row_of-requires : goal.row_of-requires
 row_of-requires c =
     let f = c.args.field.now in
-    let e = row_ends f.wide f.high c.args.y c.requires.1 in
-    rw c.wide.ensures (omega (arith, c.requires.0.long))
+    let e = row_ends f.wide f.high c.args.y c.requires.y_lt_high in
+    rw c.wide.ensures (omega (arith, c.requires.room_fits.long))
 
 pub returns : goal.returns
 unfolding turns_in

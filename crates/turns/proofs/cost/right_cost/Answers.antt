@@ -12,10 +12,7 @@ loop-y-init c = no_row_yet _
 pub row_cost-cost-requires : goal.row_cost-cost-requires
 row_cost-cost-requires c =
     let f = c.args.field.now in
-    let l = c.line.ensures in (
-      line_fits (field_of f) c.args.room.now c.loop-y.y _ _ c.requires f.wide_fits.0 f.wide_fits.1 (omega (arith, c.high-y-end.ensures)) l,
-      prices_fit f.wide c.loop-y.y _ f.right _ c.right_row.ensures l.long f.right_fits,
-    )
+    let l = c.line.ensures in record { row_fits = line_fits (field_of f) c.args.room.now c.loop-y.y _ _ c.requires f.wide_fits.0 f.wide_fits.1 (omega (arith, c.high-y-end.ensures)) l; prices_fit = prices_fit f.wide c.loop-y.y _ f.right _ c.right_row.ensures l.long f.right_fits }
 
 pub loop-y-preserved : goal.loop-y-preserved
 loop-y-preserved c =

@@ -5,12 +5,12 @@ use Rattle.turns.proofs.Following.{Following, follow_none, follow_more, follow_a
 use Rattle.turns.proofs.follow.follow_row.Goals as goal
 
 pub loop-x-init : goal.loop-x-init
-loop-x-init c = follow_none _ c.args.steps.now c.args.row.now (omega (arith, ints, c.requires.0))
+loop-x-init c = follow_none _ c.args.steps.now c.args.row.now (omega (arith, ints, c.requires.start_bound))
 
 pub loop-x-preserved : goal.loop-x-preserved
 loop-x-preserved c =
-    follow_more _ c.args.steps.now c.loop-x.row c.loop-x.x _ _ _ c.loop-x.invariant (omega (arith, c.loop-x.auto.row)) (omega (arith, c.requires.2)) c.requires.3 refl
-    (omega (arith, ints, c.requires.3 c.loop-x.x, c.requires.2, c.loop-x.invariant.small))
+    follow_more _ c.args.steps.now c.loop-x.row c.loop-x.x _ _ _ c.loop-x.invariant (omega (arith, c.loop-x.auto.row)) (omega (arith, c.requires.row_len_bound)) c.requires.steps_small refl
+    (omega (arith, ints, c.requires.steps_small c.loop-x.x, c.requires.row_len_bound, c.loop-x.invariant.small))
 
 pub returns : goal.returns
 returns c =

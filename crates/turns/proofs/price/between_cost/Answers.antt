@@ -8,12 +8,12 @@ loop-x-init c = none_yet _
 
 pub overflow_add-cost : goal.overflow_add-cost
 overflow_add-cost c =
-    let s = across_small c.args.turn c.args.upper.seen.now c.args.upper.turns.now c.args.lower.seen.now c.args.lower.turns.now c.args.prices.now c.loop-x.x c.requires.0 c.requires.1 (omega arith) in
-    omega (arith, c.loop-x.invariant.small, c.across-cost.ensures, c.requires.0.upper.few)
+    let s = across_small c.args.turn c.args.upper.seen.now c.args.upper.turns.now c.args.lower.seen.now c.args.lower.turns.now c.args.prices.now c.loop-x.x c.requires.rows_fit c.requires.prices_fit (omega arith) in
+    omega (arith, c.loop-x.invariant.small, c.across-cost.ensures, c.requires.rows_fit.upper.few)
 
 pub loop-x-preserved : goal.loop-x-preserved
 loop-x-preserved c =
-    let s = across_small c.args.turn c.args.upper.seen.now c.args.upper.turns.now c.args.lower.seen.now c.args.lower.turns.now c.args.prices.now c.loop-x.x c.requires.0 c.requires.1 (omega arith) in
+    let s = across_small c.args.turn c.args.upper.seen.now c.args.upper.turns.now c.args.lower.seen.now c.args.lower.turns.now c.args.prices.now c.loop-x.x c.requires.rows_fit c.requires.prices_fit (omega arith) in
     one_more (across c.args.turn c.args.upper.seen.now c.args.upper.turns.now c.args.lower.seen.now c.args.lower.turns.now c.args.prices.now) c.loop-x.x c.loop-x.cost c.across-cost.result c.loop-x.invariant c.across-cost.ensures s
 
 pub returns : goal.returns
@@ -22,5 +22,5 @@ returns c =
     let s = c.loop-x.invariant in
     record {
       is = between_all c.args.turn c.args.upper.seen.now c.args.upper.turns.now c.args.lower.seen.now c.args.lower.turns.now c.args.prices.now c.loop-x.cost (subst (λ (x : ℕ). SoFar (across c.args.turn c.args.upper.seen.now c.args.upper.turns.now c.args.lower.seen.now c.args.lower.turns.now c.args.prices.now) x c.loop-x.cost) e s);
-      small = omega (arith, s.small, c.requires.0.upper.few);
+      small = omega (arith, s.small, c.requires.rows_fit.upper.few);
     }
