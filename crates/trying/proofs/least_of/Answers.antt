@@ -7,4 +7,4 @@ loop-code-init c = first_least _ _ c.cost_of-least.ensures
 
 pub loop-code-preserved : goal.loop-code-preserved
 loop-code-preserved c =
-    lesser_least _ _ c.loop-code.least c.cost_of.result _ c.loop-code.invariant c.cost_of.ensures c.lesser_least.ensures.least.0 c.lesser_least.ensures.least.1 c.lesser_least.ensures.one
+    lesser_least _ _ c.loop-code.least c.cost_of.result _ c.loop-code.invariant c.cost_of.ensures c.lesser-least.ensures.least.0 c.lesser-least.ensures.least.1 c.lesser-least.ensures.one
