@@ -7,6 +7,7 @@ use anyhow::anyhow;
 use options::{USAGE, Word, word_of};
 use printing::refused::refusal_line;
 use std::io::Read;
+use std::process::ExitCode;
 use std::{env, fs, io};
 use text::document::Unread;
 
@@ -74,13 +75,13 @@ fn run(rt: &HostRuntime) -> anyhow::Result<bool> {
     show(rt, view, file)
 }
 
-fn main(rt: HostRuntime) -> anyhow::Result<()> {
+fn main(rt: HostRuntime) -> anyhow::Result<ExitCode> {
     match run(&rt) {
-        Ok(true) => Ok(()),
-        Ok(false) => Err(anyhow!("refused")),
+        Ok(true) => Ok(ExitCode::SUCCESS),
+        Ok(false) => Ok(ExitCode::FAILURE),
         Err(e) => {
             eprintln!(rt; "mulantsy: {e}")?;
-            Err(e)
+            Ok(ExitCode::FAILURE)
         }
     }
 }
