@@ -1,5 +1,6 @@
 // What a text is answered with.
 #![tactic(auto)]
+
 ghost use Rattle.std.specs.Prelude.{◌≡◌, false, IfOk, string_bytes};
 ghost use Rattle.text.specs.Document.{contents, reading};
 ghost use Rattle.answers.specs.Answers.{lent_says, form_text, PutBack, Worked, Answered};

@@ -1,12 +1,12 @@
 -- A flow that is priced costs no more than any other that meets the same supplies.
-use Rattle.std.proofs.Common.{◌≡◌, ℕ, zero, suc, ◌+◌, ◌<◌, ◌≤◌, Bool, true, false, cond, eqb, ◌⊎◌, ℤ, pos, ◌+ℤ◌, ◌-ℤ◌, ◌*ℤ◌, neg_ℤ, ◌≤ℤ◌, ◌<ℤ◌, sym, refl, ap, ◌∙◌, inl, inr, arith}
+use Rattle.std.proofs.Common.{◌≡◌, ℕ, ◌<◌, Bool, true, false, cond, eqb, ℤ, pos, ◌+ℤ◌, ◌-ℤ◌, ◌*ℤ◌, neg_ℤ, ◌≤ℤ◌, ◌<ℤ◌, sym, refl, ap, ◌∙◌, inl, inr, arith}
 use borrow.Author.Differences.{up}
 use Rattle.std.proofs.lemmas.Int.{ints}
 use Rattle.sums.specs.Sum.{sum_ℤ}
-use Rattle.sums.proofs.Ring.{mul_sub_ℤ, sub_mul_ℤ, mul_neg_ℤ, neg_mul_ℤ, mul_zero_ℤ}
+use Rattle.sums.proofs.Ring.{mul_sub_ℤ, sub_mul_ℤ, mul_neg_ℤ, mul_zero_ℤ}
 use Rattle.sums.proofs.Sum.{sum_ℤ_ext, sum_ℤ_le, sum_ℤ_add, sum_ℤ_neg, sum_ℤ_sub, sum_ℤ_scale, sum_ℤ_zero}
 use Rattle.sums.proofs.Points.{sum_by, sum_paired}
-use Rattle.network.specs.Graph.{Graph, Laws, IsFlow, Priced, outflow, unit_cost, reduced_cost}
+use Rattle.network.specs.Graph.{Graph, Laws, IsFlow, Priced, outflow, unit_cost}
 use Rattle.network.proofs.Points.{cases_lt_ℤ, head_pair, unit_forward, unit_backward}
 use Rattle.duality.specs.Theorems.{total_cost, Meets, PricedIsCheapest}
 use Rattle.duality.proofs.Edge.{rise, edge_up}

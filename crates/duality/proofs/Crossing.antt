@@ -1,14 +1,14 @@
 -- What leaves a set of nodes is what its nodes send in all, and what follows for sets that a flow fills.
-use Rattle.std.proofs.Common.{◌≡◌, ℕ, zero, suc, ◌+◌, ◌<◌, ◌≤◌, Bool, true, false, cond, eqb, ◌⊎◌, ℤ, pos, negsuc, ◌+ℤ◌, ◌-ℤ◌, neg_ℤ, ◌≤ℤ◌, ◌<ℤ◌, sym, refl, ap, ◌∙◌, inl, inr, arith}
+use Rattle.std.proofs.Common.{◌≡◌, ℕ, zero, suc, ◌<◌, Bool, true, false, cond, eqb, ◌⊎◌, ℤ, pos, negsuc, ◌+ℤ◌, ◌-ℤ◌, neg_ℤ, ◌≤ℤ◌, ◌<ℤ◌, sym, refl, ap, ◌∙◌, inl, inr, arith}
 use borrow.Author.Differences.{up}
 use Rattle.std.proofs.lemmas.Int.{ints}
 use Rattle.std.proofs.lemmas.Bool.{cases_eq, true≢false}
 use Rattle.sums.specs.Sum.{sum_ℤ, sum_to}
-use Rattle.sums.proofs.Sum.{sum_ℤ_ext, sum_ℤ_le, sum_ℤ_add, sum_ℤ_neg, sum_ℤ_zero, sum_ℤ_sub, sum_ℤ_pos, sum_ℤ_nonneg}
+use Rattle.sums.proofs.Sum.{sum_ℤ_ext, sum_ℤ_le, sum_ℤ_add, sum_ℤ_neg, sum_ℤ_zero, sum_ℤ_sub, sum_ℤ_pos}
 use Rattle.sums.proofs.Points.{sum_by, sum_paired, one_of_sum}
 use Rattle.network.specs.Graph.{Graph, Laws, IsFlow, outflow}
 use Rattle.network.proofs.Points.{head_pair}
-use Rattle.duality.specs.Theorems.{Meets, Full, FullIsInfeasible, Joined, here, along, JoinedIsNeverFull}
+use Rattle.duality.specs.Theorems.{Meets, Full, Joined, here, along, JoinedIsNeverFull}
 
 -- what leaves the set along arc a
 abbrev leaves : Graph → (ℕ → Bool) → (ℕ → ℤ) → ℕ → ℤ

@@ -1,5 +1,5 @@
 -- One edge: from one flow to another it costs at least what the potentials of its ends say.
-use Rattle.std.proofs.Common.{◌≡◌, ℕ, zero, suc, ◌+◌, ◌<◌, ◌≤◌, ◌⊎◌, ℤ, pos, negsuc, ◌+ℤ◌, ◌-ℤ◌, ◌*ℤ◌, neg_ℤ, nat_abs, ◌≤ℤ◌, ◌<ℤ◌, sym, refl, ap, ◌∙◌, inl, inr, arith}
+use Rattle.std.proofs.Common.{◌≡◌, ℕ, ℤ, pos, negsuc, ◌+ℤ◌, ◌-ℤ◌, ◌*ℤ◌, neg_ℤ, nat_abs, ◌≤ℤ◌, ◌<ℤ◌, refl, ap, ◌∙◌, inl, inr, arith}
 use borrow.Author.Differences.{up}
 use Rattle.std.proofs.lemmas.Int.{ints}
 use Rattle.sums.proofs.Ring.{add_mul_ℤ, neg_mul_ℤ, mul_sub_ℤ, mul_zero_ℤ, mul_nonneg_ℤ, mul_le_right_ℤ}

@@ -1,5 +1,5 @@
 -- What potentials and full sets say of all flows. Each theorem is a statement, a type whose proof is owed.
-use Rattle.std.specs.Prelude.{◌≡◌, ℕ, ◌<◌, Bool, true, false, ℤ, pos, ◌+ℤ◌, ◌*ℤ◌, ◌≤ℤ◌, ◌<ℤ◌}
+use Rattle.std.specs.Prelude.{◌≡◌, ℕ, ◌<◌, Bool, true, false, ℤ, pos, ◌*ℤ◌, ◌≤ℤ◌, ◌<ℤ◌}
 use borrow.Author.Differences.{up}
 use Rattle.sums.specs.Sum.{sum_ℤ, sum_to}
 use Rattle.network.specs.Graph.{Graph, Laws, IsFlow, Priced, outflow}

@@ -1,5 +1,6 @@
 // What potentials and full sets say of all flows of a network. All of it is specs and proofs.
 #![tactic(auto)]
+
 ghost use Rattle.duality.specs.Theorems.{PricedIsCheapest, FullIsInfeasible, JoinedIsNeverFull};
 
 /// A flow whose open arcs have reduced costs of at least 0 costs no more than any flow that meets

@@ -1,5 +1,5 @@
 -- Edges and arcs on slices. Assumes nothing: these are definitions.
-use Rattle.std.specs.Prelude.{◌≡◌, ℕ, ◌+◌, ◌*◌, ◌^◌, ◌<◌, ◌≤◌, List, length, ℤ, pos, ◌+ℤ◌, ◌≤ℤ◌, ◌≢◌, slice_index, slice_index_or}
+use Rattle.std.specs.Prelude.{◌≡◌, ℕ, ◌*◌, List, length, pos, ◌≢◌, slice_index, slice_index_or}
 use Rattle.edges.specs.Edges.{Edges}
 use Rattle.edges.specs.Placed.{Arcs}
 use Rattle.edges.specs.declared.EdgeList.{EdgeList}

@@ -1,5 +1,6 @@
 // The entry for programs in C, and in languages that call C.
 #![tactic(auto)]
+
 ghost use Rattle.std.specs.Prelude.{◌≡◌, length};
 ghost use Rattle.grid.specs.Field.{field_in};
 ghost use Rattle.grid.specs.Verdict.{verdict};

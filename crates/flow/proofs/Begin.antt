@@ -1,5 +1,5 @@
 -- The first flow is sound.
-use Rattle.std.proofs.Common.{◌≡◌, ℕ, zero, suc, ◌+◌, ◌*◌, ◌^◌, ◌<◌, ◌≤◌, Bool, true, false, cond, eqb, ◌⊎◌, ℤ, pos, negsuc, ◌+ℤ◌, ◌-ℤ◌, neg_ℤ, nat_abs, ◌≤ℤ◌, ◌<ℤ◌, sym, refl, ap, ◌∙◌, inl, inr, add-one, arith}
+use Rattle.std.proofs.Common.{◌≡◌, ℕ, zero, suc, ◌+◌, ◌^◌, ◌<◌, ◌≤◌, Bool, true, false, cond, eqb, ◌⊎◌, ℤ, pos, negsuc, ◌+ℤ◌, ◌-ℤ◌, neg_ℤ, nat_abs, ◌≤ℤ◌, ◌<ℤ◌, sym, refl, ap, ◌∙◌, inl, inr, add-one, arith}
 use lib.Signed.{lt_z}
 use borrow.Author.Differences.{up}
 use Rattle.std.proofs.lemmas.Int.{ints}
@@ -7,8 +7,8 @@ use Rattle.std.proofs.lemmas.Bool.{eq-eqb, ne_eqb, cases_eq, cond-true, cond-fal
 use Rattle.sums.specs.Sum.{sum_ℤ, sum_to}
 use Rattle.sums.proofs.Sum.{member_le_sum, sum_le, sum_longer, sum_ℤ_ext, sum_ℤ_le, sum_ℤ_add, sum_ℤ_neg, sum_ℤ_sub, sum_ℤ_pos, sum_ℤ_nonneg, nat_abs_sum_ℤ}
 use Rattle.sums.proofs.Points.{sum_by, sum_paired}
-use Rattle.network.specs.Graph.{Graph, at, Arc, Laws, gains, unit_cost, reduced_cost, outflow, IsFlow, Priced}
-use Rattle.network.specs.Sound.{State, Sound, supply, left, Later}
+use Rattle.network.specs.Graph.{Graph, at, Laws, gains, outflow, IsFlow, Priced}
+use Rattle.network.specs.Sound.{State, Sound, left, Later}
 use Rattle.network.proofs.Points.{cases_lt_ℤ, lt_yes, lt_no, unit_forward, unit_backward}
 use Rattle.ways.proofs.Walk.{up_none, up_some}
 use Rattle.flow.specs.Answer.{Outcome, Solved}

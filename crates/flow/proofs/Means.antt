@@ -1,5 +1,5 @@
 -- What the answers mean.
-use Rattle.std.proofs.Common.{◌≡◌, ℕ, ◌<◌, Bool, true, false, ltb, ℤ, pos, sym, refl, ap, ◌∙◌, arith}
+use Rattle.std.proofs.Common.{ℕ, ltb, ℤ, arith}
 use Rattle.std.proofs.lemmas.Int.{ints}
 use Rattle.std.proofs.lemmas.Bool.{ltb-true, ltb-false, lt-ltb}
 use Rattle.network.specs.Graph.{Graph, Laws}
@@ -9,7 +9,7 @@ use Rattle.duality.proofs.Crossing.{full_infeasible, joined_never_full}
 use Rattle.duality.proofs.Cheapest.{priced_cheapest}
 use Rattle.flow.specs.declared.Answer.{Answer}
 use Rattle.flow.specs.declared.Answer.TheVariants.{Settled, Stuck}
-use Rattle.flow.specs.Answer.{Overfull, Solved, Meaning, NeverStuck}
+use Rattle.flow.specs.Answer.{Solved, Meaning, NeverStuck}
 
 is_full : (g : Graph) (e : ℕ → ℤ) (s : State) (place : ℕ → ℕ) (k : ℕ) → Solved g e s place (Stuck k) → Full g e s.flow (λ v. ltb (place v) k)
 is_full g e s place k o =

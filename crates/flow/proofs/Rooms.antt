@@ -1,12 +1,12 @@
 -- The least room along the way found.
-use Rattle.std.proofs.Common.{◌≡◌, ℕ, ◌+◌, ◌<◌, ◌≤◌, ◌⊎◌, ℤ, pos, neg_ℤ, ◌≤ℤ◌, ◌<ℤ◌, sym, refl, ap, ◌∙◌, inl, inr, arith}
+use Rattle.std.proofs.Common.{◌≡◌, ℕ, ◌⊎◌, ℤ, pos, neg_ℤ, ◌≤ℤ◌, ◌<ℤ◌, refl, ◌∙◌, inl, inr, arith}
 use Rattle.std.proofs.lemmas.Int.{ints}
 use Rattle.std.proofs.lemmas.Bool.{cases_eq}
 use Rattle.network.specs.Graph.{Graph, at, Laws, room}
 use Rattle.network.specs.Sound.{State}
 use Rattle.network.proofs.Points.{at_same, at_other, room_open}
 use Rattle.ways.specs.Tree.{Tree}
-use Rattle.ways.specs.Way.{OnWay, Step, Found, Chain, here, back}
+use Rattle.ways.specs.Way.{Step, Found, Chain}
 use Rattle.ways.proofs.Walk.{chain_split}
 use Rattle.flow.specs.Answer.{Least}
 

@@ -1,12 +1,12 @@
 -- From a search that is over to the next state.
-use Rattle.std.proofs.Common.{◌≡◌, ℕ, ◌+◌, ◌*◌, ◌^◌, ◌<◌, ◌≤◌, ℤ, pos, ◌-ℤ◌, neg_ℤ, nat_abs, ◌≤ℤ◌, ◌<ℤ◌, sym, refl, ap, ◌∙◌, arith}
+use Rattle.std.proofs.Common.{◌≡◌, ℕ, ◌+◌, ◌^◌, ◌<◌, ◌≤◌, ℤ, pos, ◌-ℤ◌, neg_ℤ, nat_abs, ◌≤ℤ◌, ◌<ℤ◌, refl, ◌∙◌, arith}
 use Rattle.std.proofs.lemmas.Int.{ints}
 use borrow.Author.Differences.{up}
 use Rattle.sums.proofs.Sum.{sum_zero}
-use Rattle.network.specs.Graph.{Graph, Laws, reduced_cost}
+use Rattle.network.specs.Graph.{Graph, Laws}
 use Rattle.network.specs.Sound.{State, Sound, left, Later}
-use Rattle.ways.specs.Tree.{Tree, far, Searching, Ended, Aim}
-use Rattle.ways.specs.Way.{Lowered, Found, Walking, Cut}
+use Rattle.ways.specs.Tree.{Tree, far, Searching}
+use Rattle.ways.specs.Way.{Found, Walking, Cut}
 use Rattle.ways.proofs.Steps.{label_fits}
 use Rattle.ways.proofs.Walk.{up_none, excess_small, walked_sound, walked_later, walked_quiet, fewer}
 use Rattle.flow.specs.Answer.{Augmented, Overfull}

@@ -1,4 +1,5 @@
 #![tactic(auto)]
+
 ghost use Rattle.std.specs.Prelude.{◌≡◌, ℕ, ◌+◌, ◌-◌, ◌*◌, ◌^◌, ◌<◌, ◌≤◌, true, false, ◌⊎◌, length, get_or, ℤ, pos, ◌+ℤ◌, ◌-ℤ◌, neg_ℤ, ◌≤ℤ◌, ◌<ℤ◌, if◌then◌else◌, MatchResult, OnErr, ◌≢◌, nat_eq, slice_index_or, unsigned_abs};
 ghost use Rattle.std.specs.Int.Signed.{lt_z};
 ghost use Rattle.sums.specs.Sum.{sum_ℤ, sum_to};

@@ -1,5 +1,6 @@
 // Small networks, solved.
 #![tactic(auto)]
+
 #[cfg(test)]
 mod tests {
     use flow::{Answer, try_solve};

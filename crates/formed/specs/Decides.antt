@@ -1,5 +1,5 @@
 -- Parts of what makes a network well-formed, as tests decide them.
-use Rattle.std.specs.Prelude.{◌≡◌, ℕ, ◌+◌, ◌^◌, ◌<◌, ◌≤◌, Bool, true, ℤ, pos, ◌+ℤ◌, ◌≤ℤ◌, unsigned_abs}
+use Rattle.std.specs.Prelude.{◌≡◌, ℕ, ◌+◌, ◌^◌, ◌<◌, ◌≤◌, Bool, true, pos, ◌+ℤ◌, ◌≤ℤ◌, unsigned_abs}
 use Rattle.network.specs.Graph.{Graph}
 
 -- a test is true where P holds, and only there

@@ -1,5 +1,6 @@
 // Whether any lent slices make a well-formed network.
 #![tactic(auto)]
+
 ghost use Rattle.std.specs.Prelude.{◌≡◌, ℕ, ◌+◌, ◌-◌, ◌*◌, ◌^◌, ◌<◌, ◌≤◌, true, false, length, ℤ, pos, ◌+ℤ◌, ◌≤ℤ◌, ◌<ℤ◌};
 ghost use Rattle.network.specs.Graph.{Graph, graph, Arc, WellFormed, gains};
 ghost use Rattle.sums.specs.Sum.{sum_ℤ};

@@ -1,13 +1,13 @@
 -- What is decided is the first reason that applies, and there is always one decision.
-use Rattle.std.proofs.Common.{◌≡◌, ℕ, zero, suc, ◌+◌, ◌*◌, ◌<◌, ◌≤◌, Bool, true, false, ◌&&◌, eqb, ltb, leb, ◌⊎◌, List, [], ◌∷◌, length, get_or, Some, None, Option, sym, refl, ap, ◌∙◌, subst, inl, inr, ⊎_elim, arith}
+use Rattle.std.proofs.Common.{◌≡◌, ℕ, zero, suc, ◌+◌, ◌*◌, ◌<◌, ◌≤◌, true, false, eqb, ◌⊎◌, List, [], ◌∷◌, length, get_or, Some, None, Option, refl, subst, inl, inr, ⊎_elim, arith}
 use Rattle.std.proofs.lemmas.Bool.Decides.{nat_tests}
 use Rattle.std.proofs.lemmas.Bool.{cases_lt, cases_eq}
 use Rattle.grid.specs.declared.refusal.Dimension.{Dimension}
 use Rattle.grid.specs.declared.refusal.Dimension.TheVariants.{Wide, High, Turn}
 use Rattle.grid.specs.declared.refusal.Refusal.{Refusal}
 use Rattle.grid.specs.declared.refusal.Refusal.TheVariants.{Size, Seen, Price, Room, Text}
-use Rattle.grid.specs.Lists.{first_wrong, RightList, WrongFirst}
-use Rattle.grid.specs.Verdict.{within, wrong_size, verdict, Sized, Taken, Judged, OneVerdict}
+use Rattle.grid.specs.Lists.{RightList, WrongFirst}
+use Rattle.grid.specs.Verdict.{within, wrong_size, verdict, Sized, Judged, OneVerdict}
 use Rattle.grid.proofs.Lists.{right_none, wrong_some}
 
 within_yes : (low high n : ℕ) → low ≤ n → n ≤ high → within low high n ≡ true

@@ -1,8 +1,8 @@
 -- What is expected of a step: where it lies, and by how many turns it differs.
-use Rattle.std.proofs.Common.{◌≡◌, ℕ, zero, suc, ◌+◌, ◌*◌, ◌<◌, ◌≤◌, Bool, true, false, ◌⊎◌, ℤ, pos, negsuc, ◌+ℤ◌, ◌-ℤ◌, ◌*ℤ◌, neg_ℤ, nat_abs, ◌≤ℤ◌, ◌<ℤ◌, sym, refl, ap, ◌∙◌, inl, inr, mul-le-mul_right, arith}
+use Rattle.std.proofs.Common.{◌≡◌, ℕ, zero, suc, ◌<◌, ◌≤◌, Bool, true, false, ◌⊎◌, ℤ, pos, negsuc, ◌+ℤ◌, ◌-ℤ◌, ◌*ℤ◌, neg_ℤ, nat_abs, ◌≤ℤ◌, ◌<ℤ◌, refl, ◌∙◌, inl, inr, mul-le-mul_right, arith}
 use Rattle.std.proofs.lemmas.Int.{ints, by_lt_z}
-use Rattle.sums.proofs.Ring.{add_mul_ℤ, sub_mul_ℤ, ring}
-use Rattle.grid.specs.Field.{Field, Turns, pick, below_0, near, height, step_right, step_below, expected_right, expected_below, round, field_in}
+use Rattle.sums.proofs.Ring.{ring}
+use Rattle.grid.specs.Field.{Field, Turns, pick, below_0, near, height, step_right, step_below, expected_right, expected_below}
 use Rattle.grid.specs.Promise.{Fit, Half, near_by, NearLies, ExpectedLies, WholeTurns, OneTurn, HalfUpward, NearUnique}
 
 pub below_yes : (z : ℤ) → z <ℤ pos 0 → below_0 z ≡ true

@@ -1,5 +1,5 @@
 -- The three cases say what is expected.
-use Rattle.std.proofs.Common.{◌≡◌, ℕ, ◌*◌, ◌^◌, ◌<◌, ◌≤◌, ℤ, pos, negsuc, ◌+ℤ◌, ◌-ℤ◌, ◌*ℤ◌, neg_ℤ, nat_abs, ◌≤ℤ◌, ◌<ℤ◌, sym, ◌∙◌, mul-le-mul_right, arith}
+use Rattle.std.proofs.Common.{◌≡◌, ℕ, ◌*◌, ◌^◌, ◌<◌, ◌≤◌, ℤ, pos, negsuc, ◌+ℤ◌, ◌-ℤ◌, ◌*ℤ◌, neg_ℤ, nat_abs, mul-le-mul_right, arith}
 use Rattle.sums.proofs.Ring.{nat_abs_mul}
 use Rattle.std.proofs.lemmas.Int.{by_lt_z, ints}
 use Rattle.grid.specs.Field.{near}

@@ -1,5 +1,5 @@
 -- What is taken and what is turned away. Assumes nothing: these are definitions.
-use Rattle.std.specs.Prelude.{◌≡◌, ℕ, ◌+◌, ◌*◌, ◌≤◌, Bool, true, false, ◌&&◌, ◌⊎◌, List, Some, None, Option, ◌==◌, ◌≢◌, nat_le}
+use Rattle.std.specs.Prelude.{◌≡◌, ℕ, ◌+◌, ◌*◌, ◌≤◌, Bool, ◌&&◌, ◌⊎◌, List, Some, None, Option, ◌==◌, ◌≢◌, nat_le}
 use Rattle.std.specs.Option.{option_map}
 use Rattle.grid.specs.declared.refusal.Dimension.{Dimension}
 use Rattle.grid.specs.declared.refusal.Dimension.TheVariants.{Wide, High, Turn}

@@ -1,5 +1,6 @@
 // What turns cost, and what is true of it: each function stands for the statement that its contract names. The rest is specs and proofs.
 #![tactic(auto)]
+
 ghost use Rattle.laws.specs.Promise.{HasLeast, StepsHaveLeast, CostsNothing, FoundAgain, AllTheSame, Dearer, CertifiedHeights, CertifiedTurns, TwoRows, HalfUp, HalfOver};
 
 // Every field has turns that cost least.

@@ -1,5 +1,6 @@
 // Puts whole turns back into a field of numbers that were seen without them, from a text to a text.
 #![tactic(auto)]
+
 mod options;
 
 use answers::{Form, View, answer_to_text};

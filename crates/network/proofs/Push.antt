@@ -1,12 +1,11 @@
 -- What a push along one arc leaves: it is a flow still, priced if the arc's reduced cost was 0, and moves excess from tail to head.
-use Rattle.std.proofs.Common.{◌≡◌, ℕ, zero, suc, ◌+◌, ◌<◌, ◌≤◌, Bool, true, false, cond, eqb, ◌⊎◌, ℤ, pos, ◌+ℤ◌, ◌-ℤ◌, neg_ℤ, nat_abs, ◌≤ℤ◌, ◌<ℤ◌, sym, refl, ap, ◌∙◌, inl, inr, arith}
-use lib.Signed.{lt_z}
+use Rattle.std.proofs.Common.{◌≡◌, ℕ, ◌+◌, ◌<◌, ◌≤◌, cond, eqb, ◌⊎◌, ℤ, pos, ◌+ℤ◌, ◌-ℤ◌, neg_ℤ, nat_abs, ◌≤ℤ◌, ◌<ℤ◌, sym, refl, ap, ◌∙◌, inl, inr, arith}
 use Rattle.std.proofs.lemmas.Int.{ints}
 use Rattle.std.proofs.lemmas.Bool.{eq-eqb, ne_eqb, cases_eq, cond-true, cond-false}
 use Rattle.sums.specs.Sum.{sum_ℤ}
 use Rattle.sums.proofs.Sum.{sum_ℤ_ext, sum_ℤ_add, sum_ℤ_neg}
 use Rattle.sums.proofs.Points.{point_sum}
-use Rattle.network.specs.Graph.{Graph, at, Arc, Laws, unit_cost, room, reduced_cost, outflow, IsFlow, Priced}
+use Rattle.network.specs.Graph.{Graph, at, Laws, unit_cost, room, reduced_cost, outflow, IsFlow, Priced}
 use Rattle.network.proofs.Points.{cases_lt_ℤ, at_same, at_other, unit_forward, unit_backward, unit_same, room_forward, room_backward, head_pair}
 
 module _ (g : Graph) (w : Laws g) (x y : ℕ → ℤ) (a : ℕ) (l : a < g.arcs) (d : ℤ) (changed : (b : ℕ) → y b ≡ ((x b +ℤ at a d b) -ℤ at (g.pair a) d b)) where

@@ -1,8 +1,7 @@
 -- Networks as functions: what the slices of a `Network` say, when they are well-formed, and what a flow is.
-use Rattle.std.specs.Prelude.{◌≡◌, ℕ, ◌+◌, ◌^◌, ◌<◌, ◌≤◌, Bool, cond, length, ℤ, pos, ◌+ℤ◌, ◌-ℤ◌, ◌*ℤ◌, neg_ℤ, ◌≤ℤ◌, ◌<ℤ◌, ◌==◌, int_lt, slice_index, slice_index_or, unsigned_abs}
+use Rattle.std.specs.Prelude.{◌≡◌, ℕ, ◌+◌, ◌^◌, ◌<◌, ◌≤◌, cond, length, ℤ, pos, ◌+ℤ◌, ◌-ℤ◌, neg_ℤ, ◌≤ℤ◌, ◌<ℤ◌, ◌==◌, int_lt, slice_index, slice_index_or, unsigned_abs}
 use Rattle.sums.specs.Sum.{sum_ℤ}
 use Rattle.network.specs.declared.Network.{Network}
-use Rattle.network.specs.declared.Flow.{Flow}
 
 -- arcs in pairs, the two ways of an edge, grouped by their tails: those of node v are first v up to below first (v + 1)
 pub record Graph : Type 0 where

@@ -1,5 +1,5 @@
 -- The state of a solver: a flow, what each node has in excess of it, and potentials.
-use Rattle.std.specs.Prelude.{◌≡◌, ℕ, ◌+◌, ◌*◌, ◌^◌, ◌<◌, ◌≤◌, length, ℤ, pos, ◌+ℤ◌, ◌-ℤ◌, ◌≤ℤ◌, ◌<ℤ◌, slice_index_or, unsigned_abs}
+use Rattle.std.specs.Prelude.{◌≡◌, ℕ, ◌+◌, ◌*◌, ◌^◌, ◌<◌, ◌≤◌, length, ℤ, pos, ◌+ℤ◌, ◌-ℤ◌, ◌<ℤ◌, slice_index_or, unsigned_abs}
 use borrow.Author.Differences.{up}
 use Rattle.sums.specs.Sum.{sum_to, sum_ℤ}
 use Rattle.network.specs.Graph.{Graph, at, outflow, IsFlow, Priced}

@@ -1,4 +1,5 @@
 #![tactic(auto)]
+
 ghost use Rattle.std.specs.Prelude.{◌≡◌, ℕ, ◌+◌, ◌-◌, ◌*◌, ◌^◌, ◌<◌, ◌≤◌, length, get_or, ℤ, pos, ◌+ℤ◌, ◌-ℤ◌, neg_ℤ, ◌≤ℤ◌, ◌<ℤ◌, int_lt, slice_index_or, unsigned_abs};
 ghost use Rattle.network.specs.Graph.{Graph, graph, at, WellFormed, unit_cost, room, reduced_cost};
 ghost use Rattle.network.specs.Sound.{State, state, Fitting, Pushed};

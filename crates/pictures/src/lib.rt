@@ -1,5 +1,6 @@
 // Plain pictures of grey: the least number is black, and the greatest white.
 #![tactic(auto)]
+
 ghost use Rattle.std.specs.Prelude.{◌≡◌, ◌<◌, map, pos, IfOk, string_bytes};
 ghost use Rattle.pictures.specs.Picture.{scaled, shade, least, greatest, shades, head_text, picture_text, NeverDarker};
 

@@ -1,5 +1,6 @@
 // Printing: rows of numbers, costs, signs and refusals.
 #![tactic(auto)]
+
 pub mod answer;
 pub mod back;
 pub mod heights;

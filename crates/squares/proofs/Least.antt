@@ -4,7 +4,7 @@ use Rattle.std.proofs.lemmas.Int.{ints}
 use Rattle.std.proofs.lemmas.Nat.{mul-add-lt}
 use Rattle.sums.proofs.Ring.{mul_zero_ℤ, neg_mul_ℤ}
 use Rattle.grid.specs.Field.{Field}
-use Rattle.laws.specs.Cost.{Least, cost, off, turn_steps}
+use Rattle.laws.specs.Cost.{Least, off, turn_steps}
 use Rattle.laws.specs.Certificate.{Numbers, Certified}
 use Rattle.laws.proofs.Certificate.{flow_reached, certified_whole_turns}
 use Rattle.laws.proofs.Fields.{cost_ext}

@@ -1,7 +1,7 @@
 -- The turns that a flow makes, place by place, and how many they are at most.
 use Rattle.std.proofs.Common.{◌≡◌, ℕ, suc, ◌+◌, ◌*◌, ◌<◌, ◌≤◌, ℤ, pos, ◌+ℤ◌, ◌-ℤ◌, nat_abs, refl, add-mul, arith}
 use Rattle.std.proofs.lemmas.Int.{ints}
-use Rattle.sums.specs.Sum.{sum_to, sum_ℤ}
+use Rattle.sums.specs.Sum.{sum_ℤ}
 use Rattle.sums.proofs.Sum.{sum_at_most, nat_abs_sum_ℤ}
 use Rattle.sums.proofs.Ring.{nat_abs_add}
 use Rattle.grid.specs.Field.{Field}

@@ -1,5 +1,6 @@
 // The network of a field's squares, and what is true of it: each function stands for the statement that its contract names. The rest is specs and proofs.
 #![tactic(auto)]
+
 ghost use Rattle.squares.specs.Promise.{NodesApart, FourEdges, EdgesLie, SuppliesEven, SuppliesFew, StartsEmpty, SettledIsLeast, NeverStuck, SolvedIsLeast};
 
 // Squares have different nodes.

@@ -1,5 +1,5 @@
 -- Sums as a loop adds them up.
-use Rattle.std.proofs.Common.{◌≡◌, ℕ, zero, suc, pred, ◌+◌, ◌-◌, ℤ, pos, ◌+ℤ◌, refl, add-one, sub-one}
+use Rattle.std.proofs.Common.{◌≡◌, ℕ, ◌+◌, ℤ, pos, ◌+ℤ◌, refl, add-one}
 use Rattle.sums.specs.Sum.{sum_to, sum_ℤ}
 
 pub sum_none : (g : ℕ → ℕ) → sum_to 0 g ≡ 0

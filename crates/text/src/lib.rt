@@ -1,5 +1,6 @@
 // Texts and fields: reading what a person wrote, and printing the answer.
 #![tactic(auto)]
+
 pub mod document;
 pub mod draft;
 pub mod kind;

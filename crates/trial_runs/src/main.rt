@@ -1,5 +1,6 @@
 // Turns put back into drawn fields, held to what trying all turns gives.
 #![tactic(auto)]
+
 ghost use Rattle.std.specs.Prelude.{◌≡◌, ◌<◌, ◌≤◌, true, false, Decides};
 ghost use Rattle.unwrap.specs.declared.Done.TheVariants.{Back, Refused};
 ghost use Rattle.trial_runs.specs.Agreed.{Agreed};

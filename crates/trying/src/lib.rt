@@ -1,5 +1,6 @@
 // The least cost of turns from -2 to 2, found by trying them all.
 #![tactic(auto)]
+
 ghost use Rattle.std.specs.Prelude.{◌≡◌, ℕ, ◌*◌, ◌%◌, ◌^◌, ◌<◌, ◌≤◌, ◌⊎◌, length, pos, ◌-ℤ◌, Decides, MatchOption, slice_index_or};
 ghost use Rattle.grid.specs.Model.{field_of};
 ghost use Rattle.laws.specs.Cost.{cost};

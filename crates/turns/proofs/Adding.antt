@@ -1,5 +1,5 @@
 -- What steps cost, as a loop adds it up.
-use Rattle.std.proofs.Common.{◌≡◌, ℕ, suc, pred, ◌+◌, ◌-◌, ◌*◌, ◌<◌, ◌≤◌, List, length, get_or, ℤ, pos, ◌-ℤ◌, nat_abs, sym, refl, ap, ◌∙◌, add-one, sub-one, arith}
+use Rattle.std.proofs.Common.{◌≡◌, ℕ, ◌+◌, ◌-◌, ◌*◌, ◌<◌, ◌≤◌, List, length, get_or, ℤ, pos, ◌-ℤ◌, nat_abs, sym, ◌∙◌, sub-one, arith}
 use Rattle.std.proofs.lemmas.Nat.{mul-le}
 use Rattle.sums.specs.Sum.{sum_to}
 use Rattle.sums.proofs.Loop.{sum_none, sum_more}

@@ -1,6 +1,6 @@
 -- The cost by rows.
-use Rattle.std.proofs.Common.{◌≡◌, ℕ, zero, suc, pred, ◌+◌, ◌-◌, ◌*◌, ◌<◌, ◌≤◌, List, length, get_or, ℤ, pos, ◌-ℤ◌, nat_abs, sym, refl, ap, ◌∙◌, mul_comm, add-one, sub-one, arith}
-use Rattle.std.proofs.lemmas.Nat.{mul-le, mul-add-lt}
+use Rattle.std.proofs.Common.{◌≡◌, ℕ, zero, suc, pred, ◌+◌, ◌*◌, ◌<◌, ◌≤◌, List, get_or, ℤ, pos, ◌-ℤ◌, nat_abs, sym, ap, ◌∙◌, add-one, arith}
+use Rattle.std.proofs.lemmas.Nat.{mul-add-lt}
 use Rattle.sums.specs.Sum.{sum_to}
 use Rattle.sums.proofs.Sum.{sum_ext}
 use Rattle.sums.proofs.Loop.{sum_none, sum_more}
@@ -9,7 +9,7 @@ use Rattle.grid.specs.Model.{Row}
 use Rattle.grid.specs.Promise.{near_by}
 use Rattle.laws.specs.Cost.{cost, heights_cost, all_steps, turn_steps, more_right, more_below}
 use Rattle.laws.proofs.Cost.{cost_turns}
-use Rattle.turns.specs.Rows.{Most, along, across, row_cost, between_cost, RowFits, RowsFit, PricesFit}
+use Rattle.turns.specs.Rows.{along, across, row_cost, between_cost, RowFits, PricesFit}
 use Rattle.turns.specs.Parts.{right_part, below_part, RoomFits, LineOf}
 
 pred_less : (x n : ℕ) → x < pred n → x + 1 < n

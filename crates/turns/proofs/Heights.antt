@@ -1,5 +1,5 @@
 -- The height of a place that is told by its number.
-use Rattle.std.proofs.Common.{◌≡◌, ℕ, ◌+◌, ◌*◌, ◌/◌, ◌%◌, List, get_or, ℤ, pos, ◌+ℤ◌, ◌*ℤ◌, sym, ap, ◌∙◌}
+use Rattle.std.proofs.Common.{◌≡◌, ℕ, ◌+◌, ◌*◌, ◌/◌, ◌%◌, List, get_or, ℤ, pos, ◌+ℤ◌, ◌*ℤ◌, sym, ap}
 use Rattle.std.proofs.lemmas.Nat.{div-add-mod'}
 use Rattle.grid.specs.Field.{Field, height, turns_in}
 

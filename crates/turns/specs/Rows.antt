@@ -1,5 +1,5 @@
 -- What a row of turns costs, alone and against the next. Assumes nothing: these are definitions.
-use Rattle.std.specs.Prelude.{◌≡◌, ℕ, pred, ◌+◌, ◌*◌, ◌<◌, ◌≤◌, List, length, ℤ, pos, ◌-ℤ◌, ◌*ℤ◌, slice_index, slice_index_or, unsigned_abs}
+use Rattle.std.specs.Prelude.{◌≡◌, ℕ, pred, ◌+◌, ◌*◌, ◌<◌, ◌≤◌, List, length, ℤ, pos, ◌-ℤ◌, slice_index, slice_index_or, unsigned_abs}
 use Rattle.sums.specs.Sum.{sum_to}
 use Rattle.grid.specs.Promise.{near_by}
 

@@ -1,5 +1,6 @@
 // Turns, heights, and what they cost.
 #![tactic(auto)]
+
 pub mod cost;
 pub mod follow;
 pub mod height;

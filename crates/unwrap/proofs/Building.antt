@@ -1,11 +1,9 @@
 -- A network of the edges between a field's squares.
-use Rattle.std.proofs.Common.{◌≡◌, ℕ, ◌+◌, ◌-◌, ◌*◌, ◌^◌, ◌<◌, ◌≤◌, Bool, true, false, cond, ltb, List, length, get_or, take, drop, replicate, ℤ, pos, ◌+ℤ◌, nat_abs, ◌≤ℤ◌, sym, refl, ap, ◌∙◌, subst, arith}
+use Rattle.std.proofs.Common.{◌≡◌, ℕ, ◌+◌, ◌-◌, ◌*◌, ◌^◌, ◌<◌, ◌≤◌, Bool, true, false, cond, ltb, List, length, get_or, take, drop, replicate, ℤ, pos, ◌+ℤ◌, sym, refl, ap, ◌∙◌, subst, arith}
 use lib.ListN.{length-replicate, get_or-replicate}
 use Rattle.std.proofs.lemmas.List.Edits.{length-between, get_or-between}
-use lib.Signed.{lt_z}
 use Rattle.std.proofs.lemmas.Int.{ints}
 use Rattle.std.proofs.lemmas.Bool.Decides.{nat_tests}
-use Rattle.sums.specs.Sum.{sum_ℤ}
 use Rattle.sums.proofs.Sum.{sum_ℤ_zero}
 use Rattle.grid.specs.Field.{Field}
 use Rattle.grid.specs.declared.field.Field.{Field as Held}

@@ -1,9 +1,9 @@
 -- Steps with flows across them are those of turns that cost least.
-use Rattle.std.proofs.Common.{◌≡◌, ℕ, suc, ◌+◌, ◌*◌, ◌/◌, ◌%◌, ◌<◌, ◌≤◌, List, length, get_or, ℤ, pos, ◌+ℤ◌, ◌-ℤ◌, nat_abs, sym, refl, ap, ◌∙◌, subst, ap₂, arith}
+use Rattle.std.proofs.Common.{◌≡◌, ℕ, suc, ◌+◌, ◌*◌, ◌/◌, ◌%◌, ◌<◌, ◌≤◌, List, length, get_or, ℤ, pos, ◌+ℤ◌, sym, refl, ◌∙◌, ap₂, arith}
 use Rattle.std.proofs.lemmas.Nat.{mul-add-lt, div-mul-add, mod-mul-add}
 use Rattle.sums.specs.Sum.{sum_ℤ}
 use Rattle.sums.proofs.Sum.{sum_ℤ_ext}
-use Rattle.grid.specs.Field.{Field, Turns, turns_in}
+use Rattle.grid.specs.Field.{Field, turns_in}
 use Rattle.grid.specs.Model.{HasRight, HasBelow, turns_right, turns_below}
 use Rattle.laws.specs.Cost.{integral, turn_steps}
 use Rattle.network.specs.Graph.{Graph}

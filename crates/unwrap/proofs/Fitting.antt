@@ -1,5 +1,5 @@
 -- A field that was taken is fit.
-use Rattle.std.proofs.Common.{ℕ, ◌+◌, ◌*◌, ◌<◌, ◌≤◌, arith}
+use Rattle.std.proofs.Common.{◌+◌, ◌*◌, ◌<◌, ◌≤◌, arith}
 use Rattle.std.proofs.lemmas.Nat.{mul-le, mul-add-lt}
 use Rattle.grid.specs.declared.field.Field.{Field as Held}
 use Rattle.grid.specs.Model.{field_of}

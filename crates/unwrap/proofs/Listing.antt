@@ -1,5 +1,5 @@
 -- The edges of a field's squares, as loops list them.
-use Rattle.std.proofs.Common.{◌≡◌, ℕ, suc, ◌+◌, ◌*◌, ◌/◌, ◌%◌, ◌<◌, ◌≤◌, get_or, ℤ, pos, Some, None, Option, unwrap_or, sym, refl, ap, ◌∙◌, subst, ⊎_elim, mul_comm, add-one, arith}
+use Rattle.std.proofs.Common.{◌≡◌, ℕ, ◌+◌, ◌/◌, ◌%◌, ◌<◌, ◌≤◌, get_or, pos, Some, None, Option, unwrap_or, sym, ap, ◌∙◌, subst, ⊎_elim, mul_comm, add-one, arith}
 use Rattle.std.proofs.lemmas.Bool.{cases_eq}
 use Rattle.std.proofs.lemmas.Nat.{mod_below, div_below, div-add-mod'}
 use Rattle.std.specs.Option.{SomeIff}

@@ -1,5 +1,5 @@
 -- The edges of a field's squares in lists. Assumes nothing: these are definitions.
-use Rattle.std.specs.Prelude.{◌≡◌, ℕ, ◌<◌, length, get_or, ℤ, pos, ◌≢◌, slice_index, slice_index_or}
+use Rattle.std.specs.Prelude.{◌≡◌, ℕ, ◌<◌, length, get_or, pos, ◌≢◌, slice_index, slice_index_or}
 use Rattle.grid.specs.Field.{Field}
 use Rattle.edges.specs.Edges.{Edges}
 use Rattle.squares.specs.Squares.{squares_edges}

@@ -1,5 +1,6 @@
 // Turns put back into a field.
 #![tactic(auto)]
+
 ghost use Rattle.std.specs.Prelude.{◌≡◌, ◌*◌, length};
 ghost use Rattle.grid.specs.Field.{field_in};
 ghost use Rattle.grid.specs.Model.{field_of};

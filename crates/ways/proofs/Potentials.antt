@@ -1,8 +1,8 @@
 -- When a search is over: the potentials can be lowered, and then the way found costs nothing more; or nothing can leave the reached nodes.
-use Rattle.std.proofs.Common.{◌≡◌, ℕ, zero, suc, ◌+◌, ◌*◌, ◌^◌, ◌<◌, ◌≤◌, ◌⊎◌, ℤ, pos, ◌+ℤ◌, ◌-ℤ◌, nat_abs, ◌≤ℤ◌, ◌<ℤ◌, sym, refl, ap, ◌∙◌, inl, inr, arith}
+use Rattle.std.proofs.Common.{◌≡◌, ℕ, ◌*◌, ◌^◌, ◌<◌, ◌≤◌, ℤ, pos, ◌+ℤ◌, ◌-ℤ◌, nat_abs, ◌≤ℤ◌, ◌<ℤ◌, sym, ap, inl, inr, arith}
 use Rattle.std.proofs.lemmas.Int.{ints}
-use Rattle.std.proofs.lemmas.Bool.{cases_eq, cases_lt}
-use Rattle.network.specs.Graph.{Graph, Arc, Laws, unit_cost, reduced_cost}
+use Rattle.std.proofs.lemmas.Bool.{cases_lt}
+use Rattle.network.specs.Graph.{Graph, Laws, reduced_cost}
 use Rattle.network.proofs.Points.{cases_lt_ℤ}
 use Rattle.network.specs.Sound.{State, Sound, left}
 use Rattle.ways.specs.Tree.{Tree, Parent, Relaxed, Aim, far, Searching, Ended}

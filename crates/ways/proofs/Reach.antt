@@ -1,8 +1,8 @@
 -- The end of a node's arcs, the next node reached, and the beginning of a search.
-use Rattle.std.proofs.Common.{◌≡◌, ℕ, zero, suc, ◌+◌, ◌<◌, ◌≤◌, ◌⊎◌, ℤ, pos, ◌+ℤ◌, ◌≤ℤ◌, ◌<ℤ◌, sym, refl, ap, ◌∙◌, inl, inr, arith}
+use Rattle.std.proofs.Common.{◌≡◌, ℕ, ◌+◌, ◌<◌, ◌≤◌, ◌⊎◌, pos, ◌+ℤ◌, ◌≤ℤ◌, ◌<ℤ◌, sym, ap, ◌∙◌, inl, inr, arith}
 use Rattle.std.proofs.lemmas.Int.{ints}
 use Rattle.std.proofs.lemmas.Bool.{cases_eq, cases_lt}
-use Rattle.network.specs.Graph.{Graph, Arc, Laws, reduced_cost}
+use Rattle.network.specs.Graph.{Graph, Laws, reduced_cost}
 use Rattle.network.specs.Sound.{State, Sound}
 use Rattle.ways.specs.Tree.{Tree, Parent, Relaxed, Aim, far, Searching, InHand, Advanced, Begun}
 

@@ -1,11 +1,11 @@
 -- The steps of a search: an arc passed over, a node met or met by a cheaper way, a node reached; and how far labels can be.
-use Rattle.std.proofs.Common.{◌≡◌, ℕ, zero, suc, ◌+◌, ◌*◌, ◌^◌, ◌<◌, ◌≤◌, ◌⊎◌, ℤ, pos, ◌+ℤ◌, ◌-ℤ◌, neg_ℤ, nat_abs, ◌≤ℤ◌, ◌<ℤ◌, sym, refl, ap, ◌∙◌, inl, inr, arith, w64, to_z, of_z}
+use Rattle.std.proofs.Common.{◌≡◌, ℕ, zero, suc, ◌+◌, ◌*◌, ◌^◌, ◌<◌, ◌≤◌, ◌⊎◌, ℤ, pos, ◌+ℤ◌, ◌-ℤ◌, nat_abs, ◌≤ℤ◌, ◌<ℤ◌, sym, refl, ap, ◌∙◌, inl, inr, arith, w64, to_z, of_z}
 use Rattle.std.proofs.lemmas.Int.{ints}
 use Rattle.std.proofs.lemmas.Bool.{cases_eq, cases_lt}
-use Rattle.network.specs.Graph.{Graph, Arc, Laws, unit_cost, reduced_cost, Priced}
+use Rattle.network.specs.Graph.{Graph, Laws, unit_cost, reduced_cost}
 use Rattle.network.specs.Sound.{State, Sound}
 use Rattle.network.proofs.Points.{cases_lt_ℤ, unit_small}
-use Rattle.ways.specs.Tree.{Tree, Arranged, Exchanged, Parent, Relaxed, Aim, far, Searching, InHand, Improved, Idle, Nearer, Taken}
+use Rattle.ways.specs.Tree.{Tree, Parent, Relaxed, Aim, far, Searching, InHand, Improved, Idle, Nearer, Taken}
 
 -- one arc more: label, potential and unit cost along it
 further : (lv lu c pu pv ps : ℤ) (k m : ℕ) → lv ≡ (lu +ℤ ((c +ℤ pu) -ℤ pv)) → nat_abs ((lu +ℤ pu) -ℤ ps) ≤ 1073741824 * k → nat_abs c ≤ 1073741824 → k < m → nat_abs ((lv +ℤ pv) -ℤ ps) ≤ 1073741824 * m

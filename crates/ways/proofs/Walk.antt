@@ -1,17 +1,17 @@
 -- Units that go along the way found, arc by arc from its end.
-use Rattle.std.proofs.Common.{◌≡◌, ℕ, zero, suc, ◌+◌, ◌*◌, ◌^◌, ◌<◌, ◌≤◌, cond, eqb, ◌⊎◌, ℤ, pos, negsuc, ◌+ℤ◌, ◌-ℤ◌, neg_ℤ, nat_abs, ◌≤ℤ◌, ◌<ℤ◌, sym, refl, ap, ◌∙◌, inl, inr, arith}
+use Rattle.std.proofs.Common.{◌≡◌, ℕ, zero, suc, ◌+◌, ◌^◌, ◌<◌, ◌≤◌, ◌⊎◌, ℤ, pos, negsuc, ◌+ℤ◌, ◌-ℤ◌, neg_ℤ, nat_abs, ◌≤ℤ◌, ◌<ℤ◌, sym, refl, ap, ◌∙◌, inl, inr, arith}
 use borrow.Author.Differences.{up}
 use Rattle.std.proofs.lemmas.Int.{ints}
-use Rattle.std.proofs.lemmas.Bool.{cases_eq, cases_lt}
+use Rattle.std.proofs.lemmas.Bool.{cases_eq}
 use Rattle.sums.specs.Sum.{sum_ℤ, sum_to}
 use Rattle.sums.proofs.Sum.{sum_change, member_le_sum, sum_ℤ_ext, sum_ℤ_add, sum_ℤ_neg}
 use Rattle.sums.proofs.Points.{point_sum}
-use Rattle.network.specs.Graph.{Graph, at, Arc, Laws, unit_cost, room, reduced_cost, outflow, IsFlow, Priced}
+use Rattle.network.specs.Graph.{Graph, at, Laws, room, reduced_cost, IsFlow}
 use Rattle.network.specs.Sound.{State, Sound, supply, left, Later, Pushed}
-use Rattle.network.proofs.Points.{cases_lt_ℤ, at_same, at_other, unit_same, room_same, room_open}
+use Rattle.network.proofs.Points.{cases_lt_ℤ, at_same, at_other, unit_same, room_same}
 use Rattle.network.proofs.Push.{pushed_flow, pushed_priced, pushed_other, pushed_here, pushed_back, pushed_outflow, by_arc}
 use Rattle.ways.specs.Tree.{Tree}
-use Rattle.ways.specs.Way.{OnWay, Step, Found, Chain, here, back, Walking}
+use Rattle.ways.specs.Way.{Step, Found, Chain, here, back, Walking}
 
 pub chain_on : (g : Graph) (t : Tree) (u v : ℕ) → (v ≡ t.source → ⊥) → Chain g t u v → Chain g t u (g.tail (t.via v))
 chain_on g t u v n here = back n here

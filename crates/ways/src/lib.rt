@@ -1,4 +1,5 @@
 #![tactic(auto)]
+
 ghost use Rattle.std.specs.Prelude.{◌≡◌, ℕ, ◌+◌, ◌-◌, ◌*◌, ◌^◌, ◌<◌, ◌≤◌, true, false, length, ℤ, pos, ◌+ℤ◌, ◌-ℤ◌, neg_ℤ, ◌≤ℤ◌, ◌<ℤ◌, MatchOption, int_lt, slice_index, slice_index_or};
 ghost use Rattle.network.specs.Graph.{Graph, graph, WellFormed};
 ghost use Rattle.network.specs.Sound.{State, state, Fitting, Sound};

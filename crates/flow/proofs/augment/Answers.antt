@@ -1,8 +1,8 @@
-use Rattle.std.proofs.Common.{◌≡◌, get_or, pos, sym, refl, ap, ◌∙◌, arith, rules}
+use Rattle.std.proofs.Common.{get_or, pos, sym, refl, ◌∙◌, arith, rules}
 use Rattle.std.proofs.lemmas.Int.{ints}
 use Rattle.std.proofs.lemmas.Bool.{true≢false, false≢true}
 use Rattle.network.specs.Graph.{graph}
-use Rattle.network.specs.Sound.{state, left}
+use Rattle.network.specs.Sound.{state}
 use Rattle.network.proofs.Points.{yes_lt, no_lt}
 use Rattle.ways.specs.Tree.{tree, far}
 use Rattle.ways.proofs.Steps.{label_fits}

@@ -1,4 +1,4 @@
-use Rattle.std.proofs.Common.{◌≡◌, ℕ, ◌+◌, length, get_or, ℤ, pos, neg_ℤ, sym, refl, ap, ◌∙◌, arith}
+use Rattle.std.proofs.Common.{◌≡◌, ℕ, ◌+◌, length, get_or, ℤ, pos, neg_ℤ, refl, ap, ◌∙◌, arith}
 use borrow.Author.Differences.{up}
 use Rattle.sums.specs.Sum.{sum_to}
 use Rattle.std.proofs.lemmas.Int.{ints}

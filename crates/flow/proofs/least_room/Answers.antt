@@ -1,11 +1,9 @@
-use Rattle.std.proofs.Common.{◌≡◌, ◌≤◌, ◌⊎◌, nat_abs, ap, inl, inr, arith}
+use Rattle.std.proofs.Common.{◌≤◌, nat_abs, inl, inr, arith}
 use Rattle.std.proofs.lemmas.Int.{ints}
 use Rattle.network.specs.Graph.{graph}
 use Rattle.network.specs.Sound.{state, left}
 use Rattle.ways.specs.Tree.{tree}
-use Rattle.ways.specs.Way.{Step}
 use Rattle.ways.proofs.Walk.{excess_small, flow_small}
-use Rattle.flow.specs.Answer.{Least}
 use Rattle.flow.proofs.Rooms.{least_begins, least_step, least_on, least_all}
 use Rattle.flow.proofs.least_room.Goals as goal
 

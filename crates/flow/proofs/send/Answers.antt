@@ -1,6 +1,6 @@
-use Rattle.std.proofs.Common.{◌≡◌, refl, ap, ◌∙◌, arith, w64, to_z, of_z}
+use Rattle.std.proofs.Common.{refl, ◌∙◌, arith, w64, to_z, of_z}
 use Rattle.std.proofs.lemmas.Int.{ints}
-use Rattle.network.specs.Graph.{graph, at}
+use Rattle.network.specs.Graph.{graph}
 use Rattle.network.specs.Sound.{state}
 use Rattle.ways.specs.Tree.{tree}
 use Rattle.ways.proofs.Walk.{excess_small, flow_small, walk_begins, walk_on}

@@ -1,10 +1,10 @@
-use Rattle.std.proofs.Common.{◌≡◌, sym, refl, ap, ◌∙◌, inl, inr, arith}
+use Rattle.std.proofs.Common.{inl, inr, arith}
 use Rattle.std.proofs.lemmas.Int.{ints}
 use Rattle.std.proofs.lemmas.Bool.{cases_eq}
 use Rattle.network.specs.Graph.{graph}
-use Rattle.network.specs.Sound.{state, Later}
+use Rattle.network.specs.Sound.{state}
 use Rattle.ways.specs.Tree.{tree}
-use Rattle.flow.specs.Answer.{Augmented, Overfull}
+use Rattle.flow.specs.Answer.{Augmented}
 use Rattle.flow.proofs.Sent.{later_more, all_even, overfull}
 use Rattle.flow.proofs.settle.Goals as goal
 

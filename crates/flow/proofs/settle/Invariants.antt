@@ -1,4 +1,4 @@
-use Rattle.std.proofs.Common.{◌≡◌, ℕ, ◌+◌, ◌-◌, ◌<◌, ◌≤◌, pos, ◌≤ℤ◌}
+use Rattle.std.proofs.Common.{ℕ, ◌+◌, ◌-◌, ◌<◌, ◌≤◌, pos, ◌≤ℤ◌}
 use Rattle.network.specs.Graph.{graph}
 use Rattle.network.specs.Sound.{state, Fitting, Sound, Later, left}
 use Rattle.ways.specs.Tree.{tree, Roomy, Arranged}

@@ -1,4 +1,4 @@
-use Rattle.std.proofs.Common.{◌≡◌, ◌*◌, length, ◌∙◌, arith, rules}
+use Rattle.std.proofs.Common.{◌≡◌, ◌*◌, length, ◌∙◌, rules}
 use Rattle.grid.specs.Model.{field_of}
 use Rattle.trying.proofs.Codes.{code_fits, code_cost}
 use Rattle.trying.proofs.cost_of.Goals as goal

@@ -1,4 +1,3 @@
-use Rattle.std.proofs.Common.{◌≡◌}
 use Rattle.trying.proofs.Codes.{first_least, lesser_least}
 use Rattle.trying.proofs.least_of.Goals as goal
 

@@ -1,4 +1,4 @@
-use Rattle.std.proofs.Common.{◌≡◌, ℤ, ◌∙◌, arith, w64, SFits, rules}
+use Rattle.std.proofs.Common.{◌∙◌, arith, w64, SFits, rules}
 use Rattle.std.proofs.lemmas.Int.{to_z-of_z}
 use Rattle.trying.proofs.Codes.{none_written, one_written}
 use Rattle.trying.proofs.write_turns.Goals as goal

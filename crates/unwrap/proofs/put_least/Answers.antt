@@ -1,5 +1,4 @@
-use Rattle.std.proofs.Common.{◌≡◌, ℕ, ap, subst, arith}
-use Rattle.grid.specs.Field.{turns_in}
+use Rattle.std.proofs.Common.{ℕ, subst, arith}
 use Rattle.turns.specs.Follow.{Integrated}
 use Rattle.turns.proofs.Following.{integrated_first}
 use Rattle.unwrap.proofs.put_least.Goals as goal

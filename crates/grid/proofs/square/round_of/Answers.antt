@@ -1,4 +1,4 @@
-use Rattle.std.proofs.Common.{pos, ◌-ℤ◌, arith}
+use Rattle.std.proofs.Common.{arith}
 use Rattle.std.proofs.lemmas.Int.{ints}
 use Rattle.grid.proofs.Squares.{off_by_sign}
 use Rattle.grid.proofs.square.round_of.Goals as goal

@@ -1,5 +1,4 @@
-use Rattle.std.proofs.Common.{◌≡◌, ℕ, ◌+◌, ◌-◌, length, sym, ap, ◌∙◌, arith}
-use Rattle.grid.specs.Square.{counted}
+use Rattle.std.proofs.Common.{◌≡◌, ◌+◌, ◌-◌, length, ap, ◌∙◌, arith}
 use Rattle.grid.proofs.Squares.{row_to, row_none, row_more, row_most, row_all}
 use Rattle.grid.proofs.square.row_off.Goals as goal
 

@@ -1,4 +1,4 @@
-use Rattle.std.proofs.Common.{ℕ, ◌<◌, ◌≤◌, refl, arith}
+use Rattle.std.proofs.Common.{refl, arith}
 use Rattle.std.proofs.lemmas.List.{get_or_past}
 use Rattle.grid.proofs.Lists.{get_or_same}
 use Rattle.grid.proofs.take.copied.Goals as goal

@@ -1,4 +1,4 @@
-use Rattle.std.proofs.Common.{◌≡◌, ℕ, ◌+◌, ◌-◌, length, ap, ◌∙◌, subst, sub-one, arith}
+use Rattle.std.proofs.Common.{◌≡◌, ℕ, ◌+◌, ◌-◌, ap, ◌∙◌, subst, sub-one, arith}
 use Rattle.grid.specs.Field.{turns_in}
 use Rattle.grid.specs.Model.{field_of}
 use Rattle.turns.specs.Rows.{between_cost}
@@ -13,11 +13,14 @@ pub between_cost-cost-requires : goal.between_cost-cost-requires
 between_cost-cost-requires c =
     let f = c.args.field.now in
     let upper = c.line.ensures in
-    let lower = c.line-in-loop-y.ensures in record { rows_fit = record {
+    let lower = c.line-in-loop-y.ensures in record {
+      rows_fit = record {
         upper = line_fits (field_of f) c.args.room.now c.loop-y.y _ _ c.requires f.wide_fits.0 f.wide_fits.1 (omega (arith, c.high-y-end.ensures)) upper;
         lower = line_fits (field_of f) c.args.room.now (c.loop-y.y + 1) _ _ c.requires f.wide_fits.0 f.wide_fits.1 (omega (arith, c.high-y-end.ensures)) lower;
         even = omega (arith, upper.long, lower.long);
-      }; prices_fit = prices_fit f.wide c.loop-y.y _ f.below _ c.below_row.ensures upper.long f.below_fits }
+      };
+      prices_fit = prices_fit f.wide c.loop-y.y _ f.below _ c.below_row.ensures upper.long f.below_fits;
+    }
 
 pub loop-y-preserved : goal.loop-y-preserved
 loop-y-preserved c =

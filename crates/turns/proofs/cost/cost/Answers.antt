@@ -1,4 +1,3 @@
-use Rattle.std.proofs.Common.{◌≡◌, sym, ap, ◌∙◌, arith}
 use Rattle.grid.specs.Field.{turns_in}
 use Rattle.grid.specs.Model.{field_of}
 use Rattle.turns.proofs.Costing.{cost_parts}

@@ -1,4 +1,4 @@
-use Rattle.std.proofs.Common.{◌≡◌, pos, ◌∙◌, arith}
+use Rattle.std.proofs.Common.{pos, arith}
 use Rattle.grid.specs.Field.{turns_in}
 use Rattle.grid.proofs.Parts.{row_ends}
 use Rattle.turns.proofs.cost.line.Goals as goal

@@ -1,4 +1,4 @@
-use Rattle.std.proofs.Common.{◌≡◌, ℕ, ◌<◌, length, ap, ◌∙◌, subst, arith}
+use Rattle.std.proofs.Common.{◌≡◌, ℕ, ap, ◌∙◌, subst, arith}
 use Rattle.grid.specs.Field.{turns_in}
 use Rattle.grid.specs.Model.{field_of}
 use Rattle.turns.specs.Rows.{row_cost}

@@ -1,9 +1,9 @@
-use Rattle.std.proofs.Common.{◌≡◌, ◌<◌, ◌∙◌, arith}
+use Rattle.std.proofs.Common.{arith}
 use Rattle.std.proofs.lemmas.Int.{ints}
 use Rattle.grid.specs.Model.{field_of, HasBelow, turns_below_from}
 use Rattle.grid.proofs.Lists.{few_places}
 use Rattle.grid.proofs.Near.{near_by_small}
-use Rattle.turns.proofs.Filling.{Filled, filled_none, filled_more, value_small, in_field}
+use Rattle.turns.proofs.Filling.{filled_none, filled_more, value_small, in_field}
 use Rattle.turns.proofs.follow.expected_below.Goals as goal
 
 pub loop-place-init : goal.loop-place-init

@@ -1,7 +1,7 @@
-use Rattle.std.proofs.Common.{◌≡◌, ℕ, ◌<◌, length, ℤ, refl, subst, arith, w64}
+use Rattle.std.proofs.Common.{◌≡◌, length, ℤ, refl, subst, arith, w64}
 use Rattle.std.proofs.lemmas.Int.{ints, to_z-of_z}
 use Rattle.turns.specs.Follow.{Follows}
-use Rattle.turns.proofs.Following.{Following, follow_none, follow_more, follow_all, follow_all_small}
+use Rattle.turns.proofs.Following.{follow_none, follow_more, follow_all, follow_all_small}
 use Rattle.turns.proofs.follow.follow_row.Goals as goal
 
 pub loop-x-init : goal.loop-x-init

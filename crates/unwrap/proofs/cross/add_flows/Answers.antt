@@ -1,6 +1,5 @@
-use Rattle.std.proofs.Common.{◌≡◌, ℕ, ◌+◌, get_or, pos, sym, subst, arith}
+use Rattle.std.proofs.Common.{arith}
 use Rattle.std.proofs.lemmas.Int.{ints}
-use Rattle.unwrap.specs.Settled.{Added}
 use Rattle.unwrap.proofs.Adding.{added_none, added_more}
 use Rattle.unwrap.proofs.cross.add_flows.Goals as goal
 

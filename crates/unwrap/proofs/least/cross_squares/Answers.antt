@@ -1,4 +1,4 @@
-use Rattle.std.proofs.Common.{◌≡◌, length, ◌∙◌, arith, rules}
+use Rattle.std.proofs.Common.{◌≡◌, length, arith, rules}
 use Rattle.grid.specs.Model.{field_of}
 use Rattle.network.specs.Graph.{graph}
 use Rattle.unwrap.proofs.Fitting.{few_places}

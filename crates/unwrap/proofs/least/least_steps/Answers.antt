@@ -1,4 +1,4 @@
-use Rattle.std.proofs.Common.{◌≡◌, ℕ, ◌+◌, ◌<◌, ◌≤◌, length, pos, sym, ◌∙◌, arith, rules}
+use Rattle.std.proofs.Common.{◌≡◌, ◌+◌, sym, ◌∙◌, arith, rules}
 use Rattle.grid.specs.Model.{field_of}
 use Rattle.squares.specs.Squares.{places}
 use Rattle.unwrap.proofs.Fitting.{few_places}

@@ -1,4 +1,4 @@
-use Rattle.std.proofs.Common.{◌≡◌, ℕ, ◌+◌, ◌*◌, ◌<◌, ◌≤◌, length, get_or, sym, ap, ◌∙◌, subst, arith, rules}
+use Rattle.std.proofs.Common.{◌≡◌, ℕ, ◌+◌, ◌*◌, length, get_or, sym, ◌∙◌, subst, arith, rules}
 use Rattle.grid.specs.Model.{field_of}
 use Rattle.edges.specs.Lists.{edges_of, arcs_of}
 use Rattle.unwrap.proofs.Fitting.{few_places}

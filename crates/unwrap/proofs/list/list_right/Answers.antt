@@ -1,7 +1,6 @@
-use Rattle.std.proofs.Common.{◌≡◌, ℕ, ◌+◌, subst, arith}
+use Rattle.std.proofs.Common.{ℕ, ◌+◌, subst, arith}
 use Rattle.grid.specs.Model.{field_of}
-use Rattle.squares.specs.Squares.{places}
-use Rattle.unwrap.specs.Listed.{Listed, Long, Put}
+use Rattle.unwrap.specs.Listed.{Long}
 use Rattle.unwrap.proofs.Listing.{listed_more, joins_right}
 use Rattle.unwrap.proofs.list.list_right.Goals as goal
 

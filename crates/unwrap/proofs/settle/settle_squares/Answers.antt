@@ -1,8 +1,7 @@
-use Rattle.std.proofs.Common.{◌≡◌, ℕ, ◌<◌, get_or, pos, ◌∙◌, arith}
+use Rattle.std.proofs.Common.{get_or, ◌∙◌, arith}
 use Rattle.grid.specs.Model.{field_of}
 use Rattle.network.specs.Graph.{graph}
 use Rattle.network.specs.Sound.{state}
-use Rattle.ways.specs.Tree.{tree}
 use Rattle.unwrap.proofs.Fitting.{field_fit, few_places}
 use Rattle.unwrap.proofs.Settling.{balanced_of, crossed_of}
 use Rattle.unwrap.proofs.settle.settle_squares.Goals as goal

@@ -1,6 +1,4 @@
-use Rattle.std.proofs.Common.{◌≡◌, ℕ, ◌<◌, sym, refl, ap, ◌∙◌, arith, rules}
-use Rattle.std.proofs.lemmas.Int.{ints}
-use Rattle.ways.specs.Tree.{tree, Advanced}
+use Rattle.std.proofs.Common.{rules}
 use Rattle.ways.proofs.Search.advance.Goals as goal
 
 pub returns : goal.returns

@@ -1,4 +1,4 @@
-use Rattle.std.proofs.Common.{◌≡◌, sym, ap, ◌∙◌, arith}
+use Rattle.std.proofs.Common.{◌∙◌}
 use Rattle.network.specs.Graph.{graph}
 use Rattle.network.specs.Sound.{state}
 use Rattle.ways.specs.Tree.{tree, Advanced}

@@ -1,9 +1,9 @@
-use Rattle.std.proofs.Common.{◌≡◌, ◌+◌, sym, refl, ap, ◌∙◌, arith}
+use Rattle.std.proofs.Common.{◌+◌, sym, refl, ap, arith}
 use Rattle.std.proofs.lemmas.Int.{ints}
-use Rattle.network.specs.Graph.{graph, reduced_cost}
+use Rattle.network.specs.Graph.{graph}
 use Rattle.network.specs.Sound.{state}
 use Rattle.network.proofs.Points.{yes_lt, no_lt}
-use Rattle.ways.specs.Tree.{tree, InHand, Searching}
+use Rattle.ways.specs.Tree.{tree}
 use Rattle.ways.proofs.Steps.{sum_fits, level_fits, reduced_small, Onward, closed_arc, open_arc, offer_node}
 use Rattle.ways.proofs.Search.relax.Goals as goal
 

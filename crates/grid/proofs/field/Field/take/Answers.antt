@@ -1,6 +1,5 @@
-use Rattle.std.proofs.Common.{ℕ, ◌*◌, ◌<◌, ◌≤◌, arith}
+use Rattle.std.proofs.Common.{arith}
 use Rattle.grid.proofs.Lists.{few_places, small_everywhere}
-use Rattle.grid.specs.Verdict.{Taken}
 use Rattle.grid.proofs.field.Field.take.Goals as goal
 
 pub copied-requires : goal.copied-requires
