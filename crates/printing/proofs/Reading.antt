@@ -5,7 +5,7 @@ use Rattle.std.specs.Option.{option_map}
 use Rattle.std.specs.Int.{IsInRange}
 use Rattle.std.specs.Char.{is_ascii_digit}
 use Rattle.std.specs.Fmt.{signed_decimal}
-use Rattle.std.specs.List.{AllByRecursion as All}
+use Rattle.std.specs.List.{AllByRecursion}
 use Rattle.std.specs.Str.{all_ascii_digits}
 use Rattle.std.proofs.lemmas.Fmt.{digits_decimal, digits_value-decimal, decimal_nonempty}
 use Rattle.std.proofs.lemmas.Str.Parse.{IsNumeralModel, numerals_by_fold}
@@ -51,7 +51,7 @@ numeral_decimal n l = numeral_digits (decimal n) (decimal_nonempty n l) (digits_
 
 -- no byte parts words
 abbrev Solid : List ℕ → Type 0
-Solid w = All (λ b. parts Blank b ≡ false) w
+Solid w = AllByRecursion (λ b. parts Blank b ≡ false) w
 
 solid_digit : (b : ℕ) → IsInRange 48 57 b → parts Blank b ≡ false
 solid_digit b h = grind (arith, nat_tests, h.0, h.1)
@@ -83,7 +83,7 @@ piece_last (b ∷ []) s l = ap (λ (t : Bool). cond t ([] ∷ []) ((b ∷ []) �
 piece_last (b ∷ c ∷ w) s l =
     ap (λ (t : Bool). cond t ([] ∷ pieces Blank (c ∷ w)) (onto b (pieces Blank (c ∷ w)))) s.0 ∙ ap (onto b) (piece_last (c ∷ w) s.1 (omega arith))
 
-row_pieces : (z : ℤ) (zs : List ℤ) → All (λ y. mag y < 2 ^ 63) (z ∷ zs) → pieces Blank (signed_decimal z ++ more_text zs) ≡ map signed_decimal (z ∷ zs)
+row_pieces : (z : ℤ) (zs : List ℤ) → AllByRecursion (λ y. mag y < 2 ^ 63) (z ∷ zs) → pieces Blank (signed_decimal z ++ more_text zs) ≡ map signed_decimal (z ∷ zs)
 unfolding more_text
 row_pieces z [] h = ap (pieces Blank) (append-nil (signed_decimal z)) ∙ piece_last (signed_decimal z) (solid_signed z h.0) (some_signed z h.0)
 row_pieces z (y ∷ ys) h = piece_then (signed_decimal z) (signed_decimal y ++ more_text ys) (solid_signed z h.0) ∙ ap (λ (ws : List (List ℕ)). signed_decimal z ∷ ws) (row_pieces y ys h.1)
@@ -92,7 +92,7 @@ filled_cons : (w : List ℕ) (ws : List (List ℕ)) → 0 < length w → filled 
 filled_cons [] ws l = absurd (omega arith)
 filled_cons (b ∷ w) ws l = refl
 
-filled_all : (zs : List ℤ) → All (λ y. mag y < 2 ^ 63) zs → filled (map signed_decimal zs) ≡ map signed_decimal zs
+filled_all : (zs : List ℤ) → AllByRecursion (λ y. mag y < 2 ^ 63) zs → filled (map signed_decimal zs) ≡ map signed_decimal zs
 filled_all [] h = refl
 filled_all (z ∷ zs) h = filled_cons (signed_decimal z) (map signed_decimal zs) (some_signed z h.0) ∙ ap (λ (ws : List (List ℕ)). signed_decimal z ∷ ws) (filled_all zs h.1)
 
@@ -100,7 +100,7 @@ pieces_nil : pieces Blank [] ≡ []
 unfolding pieces
 pieces_nil = refl
 
-pub words_row : (zs : List ℤ) → All (λ y. mag y < 2 ^ 63) zs → words (row_text zs) ≡ map signed_decimal zs
+pub words_row : (zs : List ℤ) → AllByRecursion (λ y. mag y < 2 ^ 63) zs → words (row_text zs) ≡ map signed_decimal zs
 words_row [] h = ap filled pieces_nil
 words_row (z ∷ zs) h = ap filled (row_pieces z zs h) ∙ filled_all (z ∷ zs) h
 
@@ -117,7 +117,7 @@ signed_back : (z : ℤ) → mag z < 2 ^ 63 → signed_numeral (signed_decimal z)
 signed_back (pos n) l = unsigned_first (decimal n) (digits_decimal own n (omega arith)) ∙ ap (option_map pos) (numeral_decimal n (omega arith))
 signed_back (negsuc n) l = ap (option_map (λ k. neg_ℤ (pos k))) (numeral_decimal (suc n) (omega arith))
 
-row_back : (zs : List ℤ) → All (λ y. mag y < 2 ^ 63) zs → signed_row (map signed_decimal zs) ≡ Some zs
+row_back : (zs : List ℤ) → AllByRecursion (λ y. mag y < 2 ^ 63) zs → signed_row (map signed_decimal zs) ≡ Some zs
 unfolding signed_row
 row_back [] h = refl
 row_back (z ∷ zs) h =
@@ -126,11 +126,11 @@ row_back (z ∷ zs) h =
 pub rows_read_back : RowsReadBack
 rows_read_back zs h = ap signed_row (words_row zs h) ∙ row_back zs h
 
-small : (ns : List ℕ) → All (λ n. n ≤ 4294967295) ns → All (λ y. mag y < 2 ^ 63) (map pos ns)
+small : (ns : List ℕ) → AllByRecursion (λ n. n ≤ 4294967295) ns → AllByRecursion (λ y. mag y < 2 ^ 63) (map pos ns)
 small [] h = tt
 small (n ∷ ns) h = (omega (arith, h.0), small ns h.1)
 
-row_again : (ms ns : List ℕ) → All (λ n. n ≤ 4294967295) ns → row_onto ms (map signed_decimal (map pos ns)) ≡ Some (ms ++ ns)
+row_again : (ms ns : List ℕ) → AllByRecursion (λ n. n ≤ 4294967295) ns → row_onto ms (map signed_decimal (map pos ns)) ≡ Some (ms ++ ns)
 unfolding row_onto
 row_again ms [] h = ap (λ (x : List ℕ). Some x) (sym (append-nil ms))
 row_again ms (n ∷ ns) h =

@@ -2,7 +2,7 @@
 use Rattle.std.specs.Prelude.{◌≡◌, ℕ, ◌^◌, ◌<◌, ◌≤◌, cond, List, [], ◌∷◌, map, ℤ, pos, neg_ℤ, Some, None, Option, ◌==◌}
 use Rattle.std.specs.Int.Signed.{mag}
 use Rattle.std.specs.Option.{option_map}
-use Rattle.std.specs.List.{AllByRecursion as All}
+use Rattle.std.specs.List.{AllByRecursion}
 use Rattle.text.specs.Numeral.{numeral, then}
 use Rattle.text.specs.Pieces.{words}
 use Rattle.text.specs.Row.{row_onto}
@@ -23,8 +23,8 @@ signed_row (w ∷ ws) = then (signed_numeral w) (λ z. onto_row z (signed_row ws
 
 -- a printed row of numbers of 64 bits says these numbers
 abbrev pub RowsReadBack : Type 0
-RowsReadBack = (zs : List ℤ) → All (λ z. mag z < 2 ^ 63) zs → signed_row (words (row_text zs)) ≡ Some zs
+RowsReadBack = (zs : List ℤ) → AllByRecursion (λ z. mag z < 2 ^ 63) zs → signed_row (words (row_text zs)) ≡ Some zs
 
 -- and where they are 0 or more and of 32 bits, the reader of documents reads the row
 abbrev pub RowsReadAgain : Type 0
-RowsReadAgain = (ns : List ℕ) → All (λ n. n ≤ 4294967295) ns → row_onto [] (words (row_text (map pos ns))) ≡ Some ns
+RowsReadAgain = (ns : List ℕ) → AllByRecursion (λ n. n ≤ 4294967295) ns → row_onto [] (words (row_text (map pos ns))) ≡ Some ns
