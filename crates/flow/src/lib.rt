@@ -63,8 +63,8 @@ fn least_room(net: &Network, flow: &Flow, search: &Search) -> i64
 }
 
 fn lesser(a: i64, b: i64) -> i64
-    ensures upper_bound { (result ≤ℤ a) × (result ≤ℤ b) }
-    ensures fact { (result ≡ a) ⊎ (result ≡ b) }
+    ensures least { (result ≤ℤ a) × (result ≤ℤ b) }
+    ensures either { (result ≡ a) ⊎ (result ≡ b) }
 {
     if a < b { a } else { b }
 }

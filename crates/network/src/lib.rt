@@ -44,7 +44,7 @@ fn minus(a: i64, b: i64) -> i64
 /// Adds `d` to one element.
 pub fn add(xs: &mut [i64], i: usize, d: i64)
     requires i_in_bounds { i < length xs.old }
-    requires pos_bound { (unsigned_abs (slice_index_or xs.old i (pos 0)) ≤ 2 ^ 62) × (unsigned_abs d < 2 ^ 62) }
+    requires small { (unsigned_abs (slice_index_or xs.old i (pos 0)) ≤ 2 ^ 62) × (unsigned_abs d < 2 ^ 62) }
     ensures { (k : ℕ) → slice_index_or xs.new k (pos 0) ≡ (slice_index_or xs.old k (pos 0) +ℤ at i d k) }
 {
     xs[i] = plus(xs[i], d);
@@ -53,7 +53,7 @@ pub fn add(xs: &mut [i64], i: usize, d: i64)
 /// Takes `d` from one element.
 pub fn take(xs: &mut [i64], i: usize, d: i64)
     requires i_in_bounds { i < length xs.old }
-    requires pos_bound { (unsigned_abs (slice_index_or xs.old i (pos 0)) ≤ 2 ^ 62) × (unsigned_abs d < 2 ^ 62) }
+    requires small { (unsigned_abs (slice_index_or xs.old i (pos 0)) ≤ 2 ^ 62) × (unsigned_abs d < 2 ^ 62) }
     ensures { (k : ℕ) → slice_index_or xs.new k (pos 0) ≡ (slice_index_or xs.old k (pos 0) -ℤ at i d k) }
 {
     xs[i] = minus(xs[i], d);

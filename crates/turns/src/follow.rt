@@ -71,8 +71,8 @@ pub fn follow(wide: usize, high: usize, steps: &Steps, room: &mut [i64])
     requires wide_bound { wide ≤ 64 }
     requires high_bound { high ≤ 64 }
     requires room_len { length room.old ≡ wide * high }
-    requires steps_small { StepsSmall steps.now.right }
-    requires steps_small_2 { StepsSmall steps.now.below }
+    requires right_small { StepsSmall steps.now.right }
+    requires below_small { StepsSmall steps.now.below }
     ensures { Integrated wide high steps.now.right steps.now.below room.new }
 {
     let mut start = 0;

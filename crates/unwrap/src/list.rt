@@ -74,7 +74,7 @@ fn edge_below(field: &Field, place: usize) -> Edge
 impl Crossings<'_> {
     // Writes edge e.
     fn put(&mut self, n: usize, e: usize, edge: Edge)
-        requires long_2 { Long n self.old }
+        requires long { Long n self.old }
         requires e_lt_n { e < n }
         ensures long { Long n self.new }
         ensures put { Put e edge self.old self.new }
@@ -99,8 +99,8 @@ fn list_right(field: &Field, lists: &mut Crossings)
 
 // Lists the edges across steps down behind them.
 fn list_below(field: &Field, lists: &mut Crossings)
-    requires long_2 { Long (places (field_of field.now) + places (field_of field.now)) lists.old }
-    requires listed_2 { Listed (field_of field.now) (places (field_of field.now)) lists.old }
+    requires long { Long (places (field_of field.now) + places (field_of field.now)) lists.old }
+    requires listed { Listed (field_of field.now) (places (field_of field.now)) lists.old }
     ensures long { Long (places (field_of field.now) + places (field_of field.now)) lists.new }
     ensures listed { Listed (field_of field.now) (places (field_of field.now) + places (field_of field.now)) lists.new }
 {

@@ -15,7 +15,7 @@ take-requires c =
     let A : Arc (graph c.args.net.now) c.loop-a.a = c.requires.formed.laws.arc c.loop-a.a c.loop-a-test.true in
     let v : ℕ = (graph c.args.net.now).tail c.loop-a.a in record {
       i_in_bounds = omega (arith, A.tail, c.loop-a.invariant.2.excess);
-      pos_bound = (
+      small = (
         omega (arith, ints, c.loop-a.invariant.1 ((graph c.args.net.now).tail c.loop-a.a) A.tail, c.requires.small ((graph c.args.net.now).tail c.loop-a.a) A.tail, partly (graph c.args.net.now) c.requires.formed.laws ((graph c.args.net.now).tail c.loop-a.a) c.loop-a.a (omega (arith, c.loop-a-test.true))),
         omega (arith, ints, c.first_flow-x.ensures, started_small (graph c.args.net.now) c.requires.formed.laws c.loop-a.a c.loop-a-test.true),
       );

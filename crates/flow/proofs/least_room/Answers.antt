@@ -13,9 +13,9 @@ overflow_sub-flow c = omega (arith, ints, excess_small (graph c.args.net.now) (s
 pub loop-v-init : goal.loop-v-init
 loop-v-init c =
     least_begins (graph c.args.net.now) c.requires.formed.laws (state c.args.flow.now) (tree c.args.search.now) c.requires.found _ c.requires.excess
-    (omega (arith, ints, c.lesser-least.ensures.upper_bound.0))
-    (omega (arith, ints, c.lesser-least.ensures.upper_bound.1, small))
-    (elim c.lesser-least.ensures.fact [ inl e ↦ inl (omega (arith, ints, e)) | inr e ↦ inr (omega (arith, ints, e, small)) ])
+    (omega (arith, ints, c.lesser-least.ensures.least.0))
+    (omega (arith, ints, c.lesser-least.ensures.least.1, small))
+    (elim c.lesser-least.ensures.either [ inl e ↦ inl (omega (arith, ints, e)) | inr e ↦ inr (omega (arith, ints, e, small)) ])
   where
     small : nat_abs ((state c.args.flow.now).excess c.args.search.now.target) ≤ left (graph c.args.net.now) (state c.args.flow.now)
     small = excess_small (graph c.args.net.now) (state c.args.flow.now) c.requires.sound c.args.search.now.target c.requires.found.target
@@ -42,9 +42,9 @@ loop-v-smaller c = (least_step (graph c.args.net.now) c.requires.formed.laws (st
 pub loop-v-preserved : goal.loop-v-preserved
 loop-v-preserved c =
     least_on (graph c.args.net.now) c.requires.formed.laws (state c.args.flow.now) (tree c.args.search.now) c.requires.found c.loop-v.v _ c.loop-v.invariant c.loop-v-test.true _
-    (omega (arith, ints, c.lesser-least-in-loop-v.ensures.upper_bound.0, c.loop-v.least-is))
-    (omega (arith, ints, c.lesser-least-in-loop-v.ensures.upper_bound.1, c.room.ensures))
-    (elim c.lesser-least-in-loop-v.ensures.fact [ inl e ↦ inl (omega (arith, ints, e, c.loop-v.least-is)) | inr e ↦ inr (omega (arith, ints, e, c.room.ensures)) ])
+    (omega (arith, ints, c.lesser-least-in-loop-v.ensures.least.0, c.loop-v.least-is))
+    (omega (arith, ints, c.lesser-least-in-loop-v.ensures.least.1, c.room.ensures))
+    (elim c.lesser-least-in-loop-v.ensures.either [ inl e ↦ inl (omega (arith, ints, e, c.loop-v.least-is)) | inr e ↦ inr (omega (arith, ints, e, c.room.ensures)) ])
 
 pub returns : goal.returns
 returns c =

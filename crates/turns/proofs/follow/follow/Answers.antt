@@ -23,7 +23,7 @@ pub follow_row-requires : goal.follow_row-requires
 follow_row-requires c =
     let n : length c.loop-y.room ≡ c.args.wide * c.args.high = omega (arith, c.loop-y.auto.room, c.requires.room_len) in
     let e = row_ends c.args.wide c.args.high c.loop-y.y c.loop-y-test.true in
-    let part = (row_is c.args.wide c.loop-y.y c.loop-y.room (omega arith)).long in record { start_bound = omega (arith, c.loop-y.invariant.small, c.requires.high_bound); steps_len = c.row_of.ensures.long ∙ sym part; row_len_bound = omega (arith, part, c.requires.wide_bound); steps_small = row_steps_small c.args.wide c.loop-y.y c.args.steps.now.right c.row_of.result.now c.row_of.ensures c.requires.steps_small }
+    let part = (row_is c.args.wide c.loop-y.y c.loop-y.room (omega arith)).long in record { start_bound = omega (arith, c.loop-y.invariant.small, c.requires.high_bound); steps_len = c.row_of.ensures.long ∙ sym part; row_len_bound = omega (arith, part, c.requires.wide_bound); steps_small = row_steps_small c.args.wide c.loop-y.y c.args.steps.now.right c.row_of.result.now c.row_of.ensures c.requires.right_small }
 
 pub bounds-steps-from : goal.bounds-steps-from
 bounds-steps-from c = omega (arith, mul-le c.loop-y.y c.args.wide 63 64 (omega (arith, c.requires.high_bound)) c.requires.wide_bound)
@@ -38,8 +38,8 @@ loop-y-preserved c =
     let one : w ≡ y * w + w - y * w = omega arith in
     let long : length c.follow_row.new.row ≡ w = c.follow_row.auto.row ∙ part in
     rows_more w c.args.high _ c.args.steps.now.right c.args.steps.now.below c.loop-y.room c.row_of.result.now c.follow_row.new.row y _ _ c.loop-y.invariant c.loop-y-test.true n
-    c.row_of.ensures long c.follow_row.ensures.is c.follow_row.ensures.small c.requires.steps_small_2 one
-    (omega (arith, ints, c.requires.steps_small_2 (y * w), c.loop-y.invariant.small, c.requires.high_bound))
+    c.row_of.ensures long c.follow_row.ensures.is c.follow_row.ensures.small c.requires.below_small one
+    (omega (arith, ints, c.requires.below_small (y * w), c.loop-y.invariant.small, c.requires.high_bound))
 
 pub returns : goal.returns
 returns c = rows_all c.args.wide c.args.high c.args.steps.now.right c.args.steps.now.below c.loop-y.room c.loop-y.y _ (omega arith) c.loop-y.invariant
