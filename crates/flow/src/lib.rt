@@ -1,6 +1,6 @@
 #![tactic(auto)]
 
-ghost use Rattle.std.specs.Prelude.{◌≡◌, ℕ, ◌+◌, ◌-◌, ◌*◌, ◌^◌, ◌<◌, ◌≤◌, true, false, ◌⊎◌, length, get_or, ℤ, pos, ◌+ℤ◌, ◌-ℤ◌, neg_ℤ, ◌≤ℤ◌, ◌<ℤ◌, if◌then◌else◌, MatchResult, OnErr, ◌≢◌, nat_eq, slice_index_or, unsigned_abs};
+ghost use Rattle.std.specs.Prelude.{◌≡◌, ℕ, ◌+◌, ◌-◌, ◌*◌, ◌^◌, ◌<◌, ◌≤◌, true, false, ◌⊎◌, length, ℤ, pos, ◌+ℤ◌, ◌-ℤ◌, neg_ℤ, ◌≤ℤ◌, ◌<ℤ◌, if◌then◌else◌, MatchResult, OnErr, ◌≢◌, nat_eq, slice_index_or, unsigned_abs};
 ghost use Rattle.std.specs.Int.Signed.{lt_z};
 ghost use Rattle.sums.specs.Sum.{sum_ℤ, sum_to};
 ghost use borrow.Author.Differences.{up};
@@ -32,7 +32,7 @@ fn lower(potential: &mut [i64], search: &Search)
     requires reached { search.now.reached ≤ length potential.old }
     requires small { (v : ℕ) → v < length potential.old → unsigned_abs (slice_index_or potential.old v (pos 0)) ≤ 2 ^ 59 }
     requires near { (((v : ℕ) → v < length potential.old → (tree search.now).place v < search.now.reached → unsigned_abs ((tree search.now).label v) ≤ 2 ^ 60 + 2 ^ 58)) × (unsigned_abs search.now.bound ≤ 2 ^ 60 + 2 ^ 58) }
-    ensures { Lowered (length potential.old) (tree search.now) (λ v. get_or potential.old v (pos 0)) (λ v. get_or potential.new v (pos 0)) }
+    ensures { Lowered (length potential.old) (tree search.now) (λ v. slice_index_or potential.old v (pos 0)) (λ v. slice_index_or potential.new v (pos 0)) }
 {
     for k in 0..search.reached {
         let v = search.order[k];
@@ -249,7 +249,7 @@ fn lacking_at(excess: &[i64], v: usize) -> i64
 
 /// Whether supplies add up to 0, and are not too many.
 pub fn balanced(excess: &[i64]) -> bool
-    ensures { Decides (Balanced (length excess.now) (λ v. get_or excess.now v (pos 0))) result }
+    ensures { Decides (Balanced (length excess.now) (λ v. slice_index_or excess.now v (pos 0))) result }
 {
     let mut given = 0i64;
     let mut lacking = 0i64;

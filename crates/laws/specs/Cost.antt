@@ -27,7 +27,7 @@ rows_cost f t n = sum_to n (λ y. row_right f t y) + sum_to (pred n) (λ y. row_
 abbrev pub Least : Field → Turns → Type 0
 Least f t = (u : Turns) → cost f t ≤ cost f u
 
--- Expected steps and their prices, with no word of what was seen: `to-right x y` is expected from (x, y) to (x + 1, y),
+-- Expected steps and their prices, with no word of what was seen: `to_right x y` is expected from (x, y) to (x + 1, y),
 -- `to_below x y` from (x, y) to (x, y + 1).
 pub record Steps : Type 0 where
   pub wide : ℕ

@@ -1,6 +1,6 @@
 #![tactic(auto)]
 
-ghost use Rattle.std.specs.Prelude.{◌≡◌, ℕ, ◌+◌, ◌-◌, ◌*◌, ◌^◌, ◌<◌, ◌≤◌, length, get_or, ℤ, pos, ◌+ℤ◌, ◌-ℤ◌, neg_ℤ, ◌≤ℤ◌, ◌<ℤ◌, int_lt, slice_index_or, unsigned_abs};
+ghost use Rattle.std.specs.Prelude.{◌≡◌, ℕ, ◌+◌, ◌-◌, ◌*◌, ◌^◌, ◌<◌, ◌≤◌, length, ℤ, pos, ◌+ℤ◌, ◌-ℤ◌, neg_ℤ, ◌≤ℤ◌, ◌<ℤ◌, int_lt, slice_index_or, unsigned_abs};
 ghost use Rattle.network.specs.Graph.{Graph, graph, at, WellFormed, unit_cost, room, reduced_cost};
 ghost use Rattle.network.specs.Sound.{State, state, Fitting, Pushed};
 
@@ -64,7 +64,7 @@ impl Network<'_> {
     pub fn unit_cost(&self, flow: &[i64], a: usize) -> i64
         requires well_formed { (WellFormed self.now) × (length flow.now ≡ length self.now.tail.now) }
         requires a_in_bounds { a < length self.now.tail.now }
-        ensures value { result ≡ unit_cost (graph self.now) (λ b. get_or flow.now b (pos 0)) a }
+        ensures value { result ≡ unit_cost (graph self.now) (λ b. slice_index_or flow.now b (pos 0)) a }
         ensures small { unsigned_abs result ≤ 2 ^ 30 }
     {
         if flow[a] < 0 {

@@ -1,4 +1,4 @@
--- Laws of sums of the first n members of a function, over the naturals (sum-..) and over the integers (sumZ-..).
+-- Laws of sums of the first n members of a function, over the naturals (`sum_..`) and over the integers (`sum_ℤ_..`).
 use Rattle.std.proofs.Common.{◌≡◌, ℕ, zero, suc, ◌+◌, ◌-◌, ◌*◌, ◌<◌, ◌≤◌, ◌≢◌, ℤ, pos, ◌+ℤ◌, ◌-ℤ◌, ◌*ℤ◌, neg_ℤ, nat_abs, ◌≤ℤ◌, sym, refl, ap, ◌∙◌, ap₂, add-zero, add-suc, suc-mul, add-mul, mul-zero, zero-mul, mul-add, arith}
 use native.Mathlib.Decide.{ℕ_discrete}
 use Rattle.std.proofs.lemmas.Int.{ints}

@@ -1,5 +1,5 @@
 -- Steps in whole turns, and numbers that follow them. Assumes nothing: these are definitions.
-use Rattle.std.specs.Prelude.{◌≡◌, ℕ, ◌*◌, ◌<◌, ◌≤◌, List, length, get_or, ℤ, pos, ◌+ℤ◌, slice_index_or, unsigned_abs}
+use Rattle.std.specs.Prelude.{◌≡◌, ℕ, ◌*◌, ◌<◌, ◌≤◌, List, length, ℤ, pos, ◌+ℤ◌, slice_index_or, unsigned_abs}
 use Rattle.sums.specs.Sum.{sum_ℤ}
 use Rattle.grid.specs.Field.{Field, turns_in}
 use Rattle.grid.specs.Model.{HasRight, HasBelow, turns_right_from, turns_below_from}
@@ -11,7 +11,7 @@ StepsSmall ds = (k : ℕ) → unsigned_abs (slice_index_or ds k (pos 0)) ≤ 800
 
 -- a row that follows steps from its first number on
 pub record Follows (start : ℤ) (ds us : List ℤ) : Type 0 where
-  pub at : (x : ℕ) → x < length us → slice_index_or us x (pos 0) ≡ start +ℤ sum_ℤ x (λ i. get_or ds i (pos 0))
+  pub at : (x : ℕ) → x < length us → slice_index_or us x (pos 0) ≡ start +ℤ sum_ℤ x (λ i. slice_index_or ds i (pos 0))
 
 -- a room that follows steps down its first column and along each row
 pub record Integrated (wide high : ℕ) (right below room : List ℤ) : Type 0 where

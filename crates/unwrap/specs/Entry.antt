@@ -1,5 +1,5 @@
 -- What the entry answers and leaves behind, over the numbers that it is lent. Assumes nothing: these are definitions.
-use Rattle.std.specs.Prelude.{◌≡◌, ℕ, suc, ◌<◌, List, length, get_or, ℤ, pos, ◌+ℤ◌, ◌*ℤ◌, Some, None, Option, slice_index_or}
+use Rattle.std.specs.Prelude.{◌≡◌, ℕ, suc, ◌<◌, List, length, ℤ, pos, ◌+ℤ◌, ◌*ℤ◌, Some, None, Option, slice_index_or}
 use Rattle.grid.specs.declared.refusal.Refusal.{Refusal}
 use Rattle.grid.specs.Field.{Field, Turns, height, step_right, step_below, turns_in}
 use Rattle.grid.specs.declared.field.Field.{Field as Held}
@@ -50,7 +50,7 @@ FoundSays (Some why) f left = Unit {0}
 -- the turns left in a room for a field, and what is answered of them
 pub record PutBack (f : Field) (cost_told : ℕ) (left : List ℤ) : Type 0 where
   pub cost_is : cost_told ≡ cost f (turns_in f.wide left)
-  pub first : get_or left 0 (pos 0) ≡ pos 0
+  pub first : slice_index_or left 0 (pos 0) ≡ pos 0
   pub least : Least f (turns_in f.wide left)
 
 -- an answer, by the field that was taken or the reason that was found

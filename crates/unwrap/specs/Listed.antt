@@ -1,5 +1,5 @@
 -- The edges of a field's squares in lists. Assumes nothing: these are definitions.
-use Rattle.std.specs.Prelude.{◌≡◌, ℕ, ◌<◌, length, get_or, pos, ◌≢◌, slice_index, slice_index_or}
+use Rattle.std.specs.Prelude.{◌≡◌, ℕ, ◌<◌, length, pos, ◌≢◌, slice_index, slice_index_or}
 use Rattle.grid.specs.Field.{Field}
 use Rattle.edges.specs.Edges.{Edges}
 use Rattle.squares.specs.Squares.{squares_edges}
@@ -20,9 +20,9 @@ pub record Long (n : ℕ) (l : Crossings) : Type 0 where
 
 -- edge e is written, and all others are as they were
 pub record Put (e : ℕ) (edge : Edge) (l m : Crossings) : Type 0 where
-  pub from_e : get_or m.from.now e 0 ≡ edge.from
-  pub to_e : get_or m.to.now e 0 ≡ edge.to
-  pub price_e : get_or m.price.now e (pos 0) ≡ edge.price
+  pub from_e : slice_index m.from.now e ≡ edge.from
+  pub to_e : slice_index m.to.now e ≡ edge.to
+  pub price_e : slice_index_or m.price.now e (pos 0) ≡ edge.price
   pub from_other : (k : ℕ) → (k ≢ e) → slice_index m.from.now k ≡ slice_index l.from.now k
   pub to_other : (k : ℕ) → (k ≢ e) → slice_index m.to.now k ≡ slice_index l.to.now k
   pub price_other : (k : ℕ) → (k ≢ e) → slice_index_or m.price.now k (pos 0) ≡ slice_index_or l.price.now k (pos 0)
