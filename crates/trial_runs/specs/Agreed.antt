@@ -1,14 +1,14 @@
 -- What is seen of a field into which turns were put back. Assumes nothing: these are definitions.
-use Rattle.std.specs.Prelude.{List, take, ℤ}
+use Rattle.std.specs.Prelude.{List, ℤ}
 use Rattle.grid.specs.declared.field.Field.{Field as Held}
-use Rattle.grid.specs.Model.{field_of, Holds}
+use Rattle.grid.specs.Model.{field_of}
 use Rattle.trying.specs.Tried.{Agrees}
 use Rattle.unwrap.specs.declared.Done.{Done}
 use Rattle.unwrap.specs.declared.Done.TheVariants.{Back, Refused}
 use Rattle.trial_runs.specs.declared.trial.Trial.{Trial}
+use Rattle.trial_runs.specs.Drawn.{Lends}
 
 -- something was put back into the field that the trial lends, and trying agrees with it
 abbrev pub Agreed : Trial → Done → (room : List ℤ) → Type 0
-Agreed t (Back c) room =
-    (f : Held) × Holds t.wide t.high t.turn (take t.places t.seen) (take t.places t.right) (take t.places t.below) f × Agrees (field_of f) room c
+Agreed t (Back c) room = (f : Held) × Lends t f × Agrees (field_of f) room c
 Agreed t (Refused n) room = ⊥

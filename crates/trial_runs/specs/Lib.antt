@@ -1,3 +1,4 @@
 pub mod Agreed
 pub mod Counted
+pub mod Drawn
 pub mod Left

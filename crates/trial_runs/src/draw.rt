@@ -1,5 +1,6 @@
 // Numbers that look random, the same at every run.
-ghost use Rattle.std.specs.Prelude.{ℕ, ◌*◌, ◌<◌, ◌≤◌, slice_index};
+ghost use Rattle.std.specs.Prelude.{◌≡◌, ℕ, ◌*◌, ◌<◌, ◌≤◌, slice_index};
+ghost use Rattle.trial_runs.specs.Drawn.{name_of};
 
 // A linear congruential generator.
 #[derive(Drop)]
@@ -84,7 +85,10 @@ impl Prices {
         prices
     }
 
-    pub fn name(self) -> &'static str {
+    // How they are called.
+    pub fn name(self) -> &'static str
+        ensures { result.now ≡ name_of self }
+    {
         match self {
             Prices::One => "1",
             Prices::Few => "0 to 3",

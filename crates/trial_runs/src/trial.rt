@@ -1,6 +1,5 @@
 // A drawn field of at most six places.
-ghost use Rattle.std.specs.Prelude.{◌≡◌, ℕ, ◌<◌, ◌≤◌, take, IfSome, slice_index};
-ghost use Rattle.grid.specs.Model.{Holds};
+ghost use Rattle.std.specs.Prelude.{◌≡◌, ℕ, ◌<◌, ◌≤◌, take, length, MatchOption, slice_index};
 
 use crate::draw::{Draws, Prices};
 use grid::field::Field;
@@ -34,8 +33,13 @@ fn draw_seen(draws: &mut Draws, turn: u32) -> [u32; 6]
 }
 
 impl Trial {
+    ghost use Rattle.unwrap.specs.Entry.{RefusedSays, BackSays, LeastSays};
+    ghost use Rattle.trial_runs.specs.Drawn.{IsDrawn, Lends, TurnedAway, SaysOff, verdict_of, field_lent};
+
     // Draws a field.
-    fn draw_once(draws: &mut Draws, prices: Prices) -> Trial {
+    fn draw_once(draws: &mut Draws, prices: Prices) -> Trial
+        ensures { IsDrawn result }
+    {
         let (wide, high) = draws.size();
         let turn = draws.turn();
         Trial {
@@ -50,7 +54,9 @@ impl Trial {
     }
 
     // Draws a field, and what is seen in it again up to nine times until some square is off.
-    pub fn draw(draws: &mut Draws, prices: Prices) -> Trial {
+    pub fn draw(draws: &mut Draws, prices: Prices) -> Trial
+        ensures { IsDrawn result }
+    {
         let mut trial = Trial::draw_once(draws, prices);
         for _ in 0..9 {
             if trial.is_off() {
@@ -89,13 +95,15 @@ impl Trial {
 
     // The field that it lends, if it is one.
     pub fn field(&self) -> Option<Field>
-        ensures { IfSome result (λ f. Holds self.now.wide self.now.high self.now.turn (take self.now.places self.now.seen) (take self.now.places self.now.right) (take self.now.places self.now.below) f) }
+        ensures { MatchOption result (TurnedAway self.now) (λ f. Lends self.now f) }
     {
         Field::take(&self.lent(), self.places as u64).ok()
     }
 
     // Whether some square is off.
-    pub fn is_off(&self) -> bool {
+    pub fn is_off(&self) -> bool
+        ensures { SaysOff self.now result }
+    {
         match self.field() {
             Some(field) => field.squares_off() > 0,
             None => false,
@@ -103,7 +111,12 @@ impl Trial {
     }
 
     // What putting turns back into it answers.
-    pub fn put_back(&self, room: &mut [i64]) -> Done {
+    pub fn put_back(&self, room: &mut [i64]) -> Done
+        ensures refused { RefusedSays (verdict_of self.now (length room.old)) room.old result room.new }
+        ensures back { BackSays (verdict_of self.now (length room.old)) (field_lent self.now) result room.new }
+        ensures kept { length room.new ≡ length room.old }
+        ensures least { LeastSays (verdict_of self.now (length room.old)) (field_lent self.now) room.new }
+    {
         let lent = self.lent();
         put_back(
             lent.wide, lent.high, lent.turn, lent.seen, lent.right, lent.below, room,
