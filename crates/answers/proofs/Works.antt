@@ -1,10 +1,11 @@
 -- What a document is answered with, from what is promised of its parts. Assumes nothing.
-use Rattle.std.proofs.Common.{◌≡◌, ℕ, Bool, List, length, ℤ, Some, None, Ok, Err, string_bytes, Option, String, sym, refl, ap, ◌∙◌, subst, arith}
+use Rattle.std.proofs.Common.{◌≡◌, ℕ, Bool, List, ℤ, Some, None, Ok, Err, string_bytes, Option, Result, String, sym, refl, ap, ◌∙◌, subst, arith}
 use Rattle.std.specs.declared.alloc.Global.{Global}
 use Rattle.grid.specs.Field.{Field}
-use Rattle.grid.specs.Verdict.{verdict}
 use Rattle.grid.specs.declared.refusal.Refusal.{Refusal}
 use Rattle.text.specs.Document.{Contents}
+use Rattle.std.specs.Result.{IsErrAnd}
+use Rattle.text.specs.declared.document.Unread.{Unread}
 use Rattle.text.specs.declared.document.Unread.TheVariants.{Refused}
 use Rattle.pictures.specs.Picture.{picture_text}
 use Rattle.answers.specs.declared.Form.{Form}
@@ -15,16 +16,12 @@ use Rattle.unwrap.specs.declared.Done.{Done}
 use Rattle.unwrap.specs.declared.Done.TheVariants as done
 use Rattle.answers.specs.Answers.{field_said, verdict_on, form_text, PutBack, Viewed, TakenOr, Worked}
 
-abbrev verdict_at : Contents → ℕ → Option Refusal
-verdict_at d n = verdict d.wide d.high d.turn d.seen d.right d.below n
-
-pub put_back_from : (d : Contents) (n : ℕ) (r : Done) (left turns : List ℤ) → n ≡ length d.seen → turns ≡ left → BackSays (verdict_at d n) (field_said d) r left → FirstSays (verdict_at d n) left → LeastSays (verdict_at d n) (field_said d) left → PutBack d r turns
-put_back_from d n r left turns e q b f m =
-    subst (λ (ts : List ℤ). PutBack d r ts) (sym q)
-    (record { back = subst (λ (m : ℕ). BackSays (verdict_at d m) (field_said d) r left) e b; first = subst (λ (k : ℕ). FirstSays (verdict_at d k) left) e f; least = subst (λ (k : ℕ). LeastSays (verdict_at d k) (field_said d) left) e m })
-
-pub refuses : (w : View) (d : Contents) (f : Refusal) → Some f ≡ verdict_on d → Worked w d (Err (Refused f))
+refuses : (w : View) (d : Contents) (f : Refusal) → Some f ≡ verdict_on d → Worked w d (Err (Refused f))
 refuses w d f e = subst (λ (v : Option Refusal). TakenOr v (Viewed w d) (Err (Refused f))) e refl
+
+pub refused_by : (w : View) (d : Contents) (f : Refusal) (r : Result (String Global) Unread) → IsErrAnd r (λ u. u ≡ Refused f) → Some f ≡ verdict_on d → Worked w d r
+refused_by w d f (Ok s) h e = absurd h
+refused_by w d f (Err u) h e = subst (λ (x : Unread). Worked w d (Err x)) (sym h) (refuses w d f e)
 
 not_refused : (v : Option Refusal) (f : Field) (n : ℕ) (left : List ℤ) → None ≡ v → BackSays v f (done.Refused n) left → ⊥
 not_refused None f n left e b = let z : ◌≡◌ {A = ℕ} 0 1 = cc in omega arith

@@ -10,7 +10,7 @@ ghost use Rattle.grid.specs.Model.{field_of};
 use grid::field::Field;
 use grid::verdict::Lent;
 use pictures::{numbers_of, picture};
-use printing::answer::answer;
+use printing::answer::{Report, answer};
 use printing::heights::heights_of;
 use std::alloc::{AllocError, Global};
 use text::document::{Document, Unread, read};
@@ -37,6 +37,7 @@ struct Turned {
     done: Done,
 }
 
+// Puts turns back into a field as it is lent.
 fn put_in(heap: Global, lent: &Lent<'_, '_, '_>) -> Result<Turned, AllocError>
     ensures { IfOk result (λ t. PutBack (lent_says lent.now false) t.done t.turns.items) }
 {
@@ -54,19 +55,18 @@ fn put_in(heap: Global, lent: &Lent<'_, '_, '_>) -> Result<Turned, AllocError>
 }
 
 // The text of heights.
-fn shown(
-    heap: Global,
-    field: &Field,
-    heights: &[i64],
-    cost: u64,
-    squares: bool,
-    form: Form,
-) -> Result<String, AllocError>
-    ensures { IfOk result (λ s. string_bytes s ≡ form_text form (field_of field.now) heights.now cost squares) }
+fn shown(heap: Global, form: Form, report: &Report<'_>) -> Result<String, AllocError>
+    ensures { IfOk result (λ s.
+        string_bytes s ≡ form_text form (field_of report.now.field.now) report.now.heights.now report.now.cost report.now.squares) }
 {
     match form {
-        Form::Rows => answer(heap, field, heights, cost, squares),
-        Form::Picture => picture(heap, field.wide(), field.high(), heights),
+        Form::Rows => answer(heap, report),
+        Form::Picture => picture(
+            heap,
+            report.field.wide(),
+            report.field.high(),
+            report.heights,
+        ),
     }
 }
 
@@ -79,27 +79,27 @@ fn worked(
 ) -> Result<String, Unread>
     ensures { Worked (Heights form) (lent_says lent.now squares) result }
 {
-    let field = match Field::take(lent, lent.seen.len() as u64) {
-        Ok(field) => field,
-        Err(refusal) => return Err(Unread::Refused(refusal)),
-    };
+    let field = Field::take(lent, lent.seen.len() as u64)?;
     let Turned { turns, done } = put_in(heap, lent)?;
     let cost = match done {
         Done::Back(cost) => cost,
         Done::Refused(_) => unreachable(),
     };
     let heights = heights_of(heap, field.turn(), lent.seen, turns.as_slice())?;
-    Ok(shown(heap, &field, heights.as_slice(), cost, squares, form)?)
+    let report = Report {
+        field: &field,
+        heights: heights.as_slice(),
+        cost,
+        squares,
+    };
+    Ok(shown(heap, form, &report)?)
 }
 
 // The rings of a field as it is lent, or why it is turned away.
 fn rings(heap: Global, lent: &Lent<'_, '_, '_>, squares: bool) -> Result<String, Unread>
     ensures { Worked Rings (lent_says lent.now squares) result }
 {
-    let field = match Field::take(lent, lent.seen.len() as u64) {
-        Ok(field) => field,
-        Err(refusal) => return Err(Unread::Refused(refusal)),
-    };
+    let field = Field::take(lent, lent.seen.len() as u64)?;
     let numbers = numbers_of(heap, lent.seen)?;
     Ok(picture(heap, field.wide(), field.high(), numbers.as_slice())?)
 }

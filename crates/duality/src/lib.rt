@@ -5,22 +5,16 @@ ghost use Rattle.duality.specs.Theorems.{PricedIsCheapest, FullIsInfeasible, Joi
 
 /// A flow whose open arcs have reduced costs of at least 0 costs no more than any flow that meets
 /// the same supplies.
-pub fn priced_is_cheapest() -> u8
+pub fn priced_is_cheapest()
     ensures { PricedIsCheapest }
-{
-    0
-}
+{}
 
 /// No flow meets the supplies where nodes have more than can leave them.
-pub fn full_is_infeasible() -> u8
+pub fn full_is_infeasible()
     ensures { FullIsInfeasible }
-{
-    0
-}
+{}
 
 /// No nodes have more than can leave them where arcs that take all supplies join every two nodes.
-pub fn joined_is_never_full() -> u8
+pub fn joined_is_never_full()
     ensures { JoinedIsNeverFull }
-{
-    0
-}
+{}

@@ -1,52 +1,40 @@
 -- Edges and arcs on slices. Assumes nothing: these are definitions.
-use Rattle.std.specs.Prelude.{◌≡◌, ℕ, ◌*◌, List, length, pos, ◌≢◌, slice_index, slice_index_or}
+use Rattle.std.specs.Prelude.{ℕ, List, length, slice_index, slice_index_or}
+use Rattle.network.specs.Graph.{no_arc}
 use Rattle.edges.specs.Edges.{Edges}
+use Rattle.edges.specs.Ends.{no_edge, from_of, to_of}
 use Rattle.edges.specs.Placed.{Arcs}
-use Rattle.edges.specs.declared.EdgeList.{EdgeList}
-use Rattle.edges.specs.declared.ArcLists.{ArcLists}
+use Rattle.edges.specs.Slots.{degree, base}
+use Rattle.edges.specs.declared.edge.Edge.{Edge}
+use Rattle.edges.specs.declared.edge.EdgeList.{EdgeList}
+use Rattle.edges.specs.declared.lists.ArcLists.{ArcLists}
 
-abbrev pub edges_of : EdgeList → Edges
-edges_of l =
+abbrev pub edges_of : List Edge → Edges
+edges_of es =
     record {
-      count = length l.from.now;
-      from = λ e. slice_index l.from.now e;
-      to = λ e. slice_index l.to.now e;
-      cost = λ e. slice_index_or l.cost.now e (pos 0);
-      back = λ e. slice_index_or l.back.now e (pos 0);
-      limit = λ e. slice_index_or l.limit.now e (pos 0);
-      back_limit = λ e. slice_index_or l.back_limit.now e (pos 0);
+      count = length es;
+      from = from_of es;
+      to = to_of es;
+      cost = λ e. (slice_index_or es e no_edge).cost;
+      back = λ e. (slice_index_or es e no_edge).back;
+      limit = λ e. (slice_index_or es e no_edge).limit;
+      back_limit = λ e. (slice_index_or es e no_edge).back_limit;
     }
 
 abbrev pub arcs_of : ArcLists → Arcs
 arcs_of l =
     record {
-      tail = λ a. slice_index l.tail.now a;
-      head = λ a. slice_index l.head.now a;
-      pair = λ a. slice_index l.pair.now a;
-      cost = λ a. slice_index_or l.cost.now a (pos 0);
-      limit = λ a. slice_index_or l.limit.now a (pos 0);
-      arc = λ e. slice_index l.arc.now e;
+      tail = λ a. (slice_index_or l.arcs.now a no_arc).tail;
+      head = λ a. (slice_index_or l.arcs.now a no_arc).head;
+      pair = λ a. (slice_index_or l.arcs.now a no_arc).pair;
+      cost = λ a. (slice_index_or l.arcs.now a no_arc).cost;
+      limit = λ a. (slice_index_or l.arcs.now a no_arc).limit;
+      arc = λ e. slice_index l.arc_of.now e;
     }
 
--- a number of each kind for each edge
-pub record Even (l : EdgeList) : Type 0 where
-  pub to : length l.to.now ≡ length l.from.now
-  pub cost : length l.cost.now ≡ length l.from.now
-  pub back : length l.back.now ≡ length l.from.now
-  pub limit : length l.limit.now ≡ length l.from.now
-  pub back_limit : length l.back_limit.now ≡ length l.from.now
+-- how many ends of edges are at node v, and at the nodes before it
+abbrev pub degree_of : EdgeList → ℕ → ℕ
+degree_of l v = degree (from_of l.edges.now) (to_of l.edges.now) (length l.edges.now) v
 
--- room for two arcs for each of so many edges
-pub record RoomFor (edges : ℕ) (l : ArcLists) : Type 0 where
-  pub tail : length l.tail.now ≡ edges * 2
-  pub head : length l.head.now ≡ edges * 2
-  pub pair : length l.pair.now ≡ edges * 2
-  pub cost : length l.cost.now ≡ edges * 2
-  pub limit : length l.limit.now ≡ edges * 2
-  pub arc : length l.arc.now ≡ edges
-
--- two elements are written, and all others are as they were
-pub record Two {A : Type 0} (a b : ℕ) (x y : A) (xs ys : List A) : Type 0 where
-  pub first : (d : A) → slice_index_or ys a d ≡ x
-  pub second : (d : A) → slice_index_or ys b d ≡ y
-  pub other : (k : ℕ) (d : A) → (k ≢ a) → (k ≢ b) → slice_index_or ys k d ≡ slice_index_or xs k d
+abbrev pub base_of : EdgeList → ℕ → ℕ
+base_of l v = base (from_of l.edges.now) (to_of l.edges.now) (length l.edges.now) v

@@ -1,5 +1,5 @@
 -- The first flow is sound.
-use Rattle.std.proofs.Common.{◌≡◌, ℕ, zero, suc, ◌+◌, ◌^◌, ◌<◌, ◌≤◌, Bool, true, false, cond, eqb, ◌⊎◌, ℤ, pos, negsuc, ◌+ℤ◌, ◌-ℤ◌, neg_ℤ, nat_abs, ◌≤ℤ◌, ◌<ℤ◌, sym, refl, ap, ◌∙◌, inl, inr, add-one, arith}
+use Rattle.std.proofs.Common.{◌≡◌, ℕ, ◌+◌, ◌^◌, ◌<◌, ◌≤◌, Bool, true, false, cond, eqb, ◌⊎◌, ℤ, pos, ◌+ℤ◌, ◌-ℤ◌, neg_ℤ, nat_abs, ◌≤ℤ◌, ◌<ℤ◌, sym, ap, ◌∙◌, inl, inr, arith, Result, List, length, if◌then◌else◌, nat_eq, slice_set}
 use lib.Signed.{lt_z}
 use borrow.Author.Differences.{up}
 use Rattle.std.proofs.lemmas.Int.{ints}
@@ -7,13 +7,17 @@ use Rattle.std.proofs.lemmas.Bool.{eq-eqb, ne_eqb, cases_eq, cond-true, cond-fal
 use Rattle.sums.specs.Sum.{sum_ℤ, sum_to}
 use Rattle.sums.proofs.Sum.{member_le_sum, sum_le, sum_longer, sum_ℤ_ext, sum_ℤ_le, sum_ℤ_add, sum_ℤ_neg, sum_ℤ_sub, sum_ℤ_pos, sum_ℤ_nonneg, nat_abs_sum_ℤ}
 use Rattle.sums.proofs.Points.{sum_by, sum_paired}
-use Rattle.network.specs.Graph.{Graph, at, Laws, gains, outflow, IsFlow, Priced}
+use Rattle.std.proofs.lemmas.List.{get_or-set_same, get_or-set_other}
+use Rattle.network.specs.Node.{excess_of, no_node}
+use Rattle.network.specs.declared.node.Node.{Node}
+use Rattle.network.specs.Graph.{Graph, Laws, gains, outflow, IsFlow, Priced}
 use Rattle.network.specs.Sound.{State, Sound, left, Later}
 use Rattle.network.proofs.Points.{cases_lt_ℤ, lt_yes, lt_no, unit_forward, unit_backward}
-use Rattle.ways.proofs.Walk.{up_none, up_some}
+use Rattle.ways.proofs.Walk.{up_none, up_some, parts}
+use Rattle.formed.proofs.Partial.{sum_more}
 use Rattle.flow.specs.Answer.{Outcome, Solved}
-use Rattle.flow.specs.declared.Answer.{Answer}
-use Rattle.flow.specs.Start.{started, Balanced, Started}
+use Rattle.flow.specs.declared.stuck.Stuck.{Stuck}
+use Rattle.flow.specs.Start.{started, started_out, Balanced, Started}
 
 gains_yes : (g : Graph) (a : ℕ) → g.cost a <ℤ pos 0 → gains g a ≡ g.limit a
 gains_yes g a h = cond-true (lt_z (g.cost a) (pos 0)) (g.limit a) (pos 0) (lt_yes (g.cost a) (pos 0) h)
@@ -21,25 +25,9 @@ gains_yes g a h = cond-true (lt_z (g.cost a) (pos 0)) (g.limit a) (pos 0) (lt_ye
 gains_no : (g : Graph) (a : ℕ) → pos 0 ≤ℤ g.cost a → gains g a ≡ pos 0
 gains_no g a h = cond-false (lt_z (g.cost a) (pos 0)) (g.limit a) (pos 0) (lt_no (g.cost a) (pos 0) h)
 
--- the positive and the negative parts of supplies
-parts : (n : ℕ) (e : ℕ → ℤ) → sum_ℤ n e ≡ (pos (sum_to n (λ v. up (e v))) -ℤ pos (sum_to n (λ v. up (neg_ℤ (e v)))))
-unfolding sum_ℤ sum_to
-parts zero e = refl
-parts (suc n) e = omega (arith, ints, parts n e, split (e n))
-  where
-    split : (z : ℤ) → z ≡ (pos (up z) -ℤ pos (up (neg_ℤ z)))
-    split (pos zero) = refl
-    split (pos (suc k)) = omega (arith, ints)
-    split (negsuc k) = omega (arith, ints)
-
--- so far, as a test adds them up
-pub parts_none : (f : ℕ → ℕ) → sum_to 0 f ≡ 0
-unfolding sum_to
-parts_none f = refl
-
-pub parts_more : (k : ℕ) (f : ℕ → ℕ) → sum_to (k + 1) f ≡ sum_to k f + f k
-unfolding sum_to
-parts_more k f = rw (add-one k) refl
+-- what a node lacks is what its excess gives with the other sign
+pub lacks_is : (e x r : ℤ) → r ≡ pos (up x) → x ≡ neg_ℤ e → r ≡ pos (up (neg_ℤ e))
+lacks_is e x r h q = h ∙ ap (λ (z : ℤ). pos (up z)) q
 
 -- balanced supplies: no part of what is given or lacks is too much
 pub balanced_parts : (n : ℕ) (e : ℕ → ℤ) → Balanced n e → (k : ℕ) → k ≤ n → (sum_to k (λ v. up (e v)) ≤ 576460752303423488) × (sum_to k (λ v. up (neg_ℤ (e v))) ≤ 576460752303423488)
@@ -60,20 +48,19 @@ supply_small n e b v h = elim (cases_lt_ℤ (e v) (pos 0)) [
   | inr l ↦ omega (arith, ints, up_some (e v) l, member_le_sum n v (λ w. up (e w)) h, b.few)
 ]
 
-pub sum_none : (f : ℕ → ℤ) → sum_ℤ 0 f ≡ pos 0
-unfolding sum_ℤ
-sum_none f = refl
-
-pub sum_more : (k : ℕ) (f : ℕ → ℤ) → sum_ℤ (k + 1) f ≡ (sum_ℤ k f +ℤ f k)
-unfolding sum_ℤ
-sum_more k f = rw (add-one k) refl
-
--- what is taken at the tail of an arc
-pub at_tail : (u v : ℕ) (x y : ℤ) → x ≡ y → at u x v ≡ cond (eqb u v) y (pos 0)
-at_tail u v x y q = elim (cases_eq v u) [
-  | inl e ↦ cond-true (eqb v u) x (pos 0) (eq-eqb v u e) ∙ (q ∙ sym (cond-true (eqb u v) y (pos 0) (eq-eqb u v (sym e))))
-  | inr n ↦ cond-false (eqb v u) x (pos 0) (ne_eqb v u n) ∙ sym (cond-false (eqb u v) y (pos 0) (ne_eqb u v (λ e. n (sym e))))
+-- what is taken at one node
+taken : (nodes : List Node) (u v : ℕ) (m : Node) (x : ℤ) → u < length nodes → m.excess ≡ (excess_of nodes u -ℤ x) → excess_of (slice_set nodes u m) v ≡ (excess_of nodes v -ℤ (if nat_eq u v then x else pos 0))
+taken nodes u v m x l e = elim (cases_eq v u) [
+  | inl q ↦ omega (arith, ints, e, ap (λ (w : ℕ). excess_of (slice_set nodes u m) w) q, ap (λ (w : ℕ). excess_of nodes w) q, ap (λ (n : Node). n.excess) (get_or-set_same nodes u m no_node l), cond-true (eqb u v) x (pos 0) (eq-eqb u v (sym q)))
+  | inr n ↦ omega (arith, ints, ap (λ (n : Node). n.excess) (get_or-set_other nodes u v m no_node n), cond-false (eqb u v) x (pos 0) (ne_eqb u v (λ q. n (sym q))))
 ]
+
+-- so far, with arc a
+pub taken_here : (g : Graph) (a v : ℕ) (nodes : List Node) (m : Node) (before : ℤ)
+    → excess_of nodes v ≡ (before -ℤ started_out g v a)
+    → g.tail a < length nodes → m.excess ≡ (excess_of nodes (g.tail a) -ℤ started g a)
+    → excess_of (slice_set nodes (g.tail a) m) v ≡ (before -ℤ started_out g v (a + 1))
+taken_here g a v nodes m before h l e = omega (arith, ints, h, taken nodes (g.tail a) v m (started g a) l e, sum_more a (λ b. if nat_eq (g.tail b) v then started g b else pos 0))
 
 module _ (g : Graph) (w : Laws g) where
   -- the first flow of an arc: its own limit, less the limit of its pair, by which of them costs less than nothing
@@ -223,7 +210,7 @@ module _ (g : Graph) (w : Laws g) where
         }
 
 -- from the first flow to what the solver promises
-pub solved : (g : Graph) (e : ℕ → ℤ) (s s' : State) (place : ℕ → ℕ) (r : Answer) → Started g e (sum_to g.nodes (λ v. up (e v))) s → Sound g s' → Later g s s' → Outcome g s' place r → Solved g e s' place r
+pub solved : (g : Graph) (e : ℕ → ℤ) (s s' : State) (place : ℕ → ℕ) (r : Result (Unit {0}) Stuck) → Started g e (sum_to g.nodes (λ v. up (e v))) s → Sound g s' → Later g s s' → Outcome g s' place r → Solved g e s' place r
 solved g e s s' place r b o l a =
     record {
       flows = o.flows;

@@ -3,3 +3,4 @@ pub mod Rooms
 pub mod Sent
 pub mod Begin
 pub mod Means
+pub mod Ends

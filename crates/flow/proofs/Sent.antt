@@ -1,12 +1,20 @@
 -- From a search that is over to the next state.
-use Rattle.std.proofs.Common.{◌≡◌, ℕ, ◌+◌, ◌^◌, ◌<◌, ◌≤◌, ℤ, pos, ◌-ℤ◌, neg_ℤ, nat_abs, ◌≤ℤ◌, ◌<ℤ◌, refl, ◌∙◌, arith}
+use Rattle.std.proofs.Common.{◌≡◌, ℕ, ◌+◌, ◌^◌, ◌<◌, ◌≤◌, ℤ, pos, ◌-ℤ◌, neg_ℤ, nat_abs, ◌≤ℤ◌, ◌<ℤ◌, refl, ◌∙◌, inl, inr, arith, List, length, true, false, Option, Some, None, SomeIff, is_none}
+use Rattle.std.proofs.Math.Path.{fun_ext}
 use Rattle.std.proofs.lemmas.Int.{ints}
 use borrow.Author.Differences.{up}
 use Rattle.sums.proofs.Sum.{sum_zero}
 use Rattle.network.specs.Graph.{Graph, Laws}
-use Rattle.network.specs.Sound.{State, Sound, left, Later}
-use Rattle.ways.specs.Tree.{Tree, far, Searching}
-use Rattle.ways.specs.Way.{Found, Walking, Cut}
+use Rattle.network.specs.Network.{graph}
+use Rattle.network.specs.Node.{excess_of, potential_of}
+use Rattle.network.specs.Sound.{State, state, Sound, left, Later}
+use Rattle.network.specs.declared.flow.Flow.{Flow}
+use Rattle.network.specs.declared.node.Node.{Node}
+use Rattle.network.proofs.Points.{cases_lt_ℤ}
+use Rattle.ways.specs.Tree.{Tree, tree, far, Searching, Ended}
+use Rattle.ways.specs.Way.{Lowered, Found, Walking, Cut}
+use Rattle.ways.specs.declared.search.Search.{Search}
+use Rattle.ways.proofs.Potentials.{lowered_sound, lowered_found}
 use Rattle.ways.proofs.Steps.{label_fits}
 use Rattle.ways.proofs.Walk.{up_none, excess_small, walked_sound, walked_later, walked_quiet, fewer}
 use Rattle.flow.specs.Answer.{Augmented, Overfull}
@@ -25,9 +33,9 @@ repriced g w x e p q o h =
     }
 
 -- s was there, p are the lowered potentials, s' is what the push leaves
-pub augmented : (g : Graph) (w : Laws g) (s : State) (p : ℕ → ℤ) (o : Sound g (record { flow = s.flow; excess = s.excess; potential = p })) (t : Tree) (f : Found g (record { flow = s.flow; excess = s.excess; potential = p }) t) (d : ℤ) → pos 0 <ℤ d → d ≤ℤ s.excess t.source → d ≤ℤ neg_ℤ (s.excess t.target) → (s' : State) → ((v : ℕ) → s'.potential v ≡ p v) → Walking g (record { flow = s.flow; excess = s.excess; potential = p }) s' t t.source d → Augmented g s s'
+sent : (g : Graph) (w : Laws g) (s : State) (p : ℕ → ℤ) (o : Sound g (record { flow = s.flow; excess = s.excess; potential = p })) (t : Tree) (f : Found g (record { flow = s.flow; excess = s.excess; potential = p }) t) (d : ℤ) → pos 0 <ℤ d → d ≤ℤ s.excess t.source → d ≤ℤ neg_ℤ (s.excess t.target) → (s' : State) → ((v : ℕ) → s'.potential v ≡ p v) → Walking g (record { flow = s.flow; excess = s.excess; potential = p }) s' t t.source d → Augmented g s s'
 unfolding left
-augmented g w s p o t f d more enough wanted s' same k =
+sent g w s p o t f d more enough wanted s' same k =
     record {
       sound = repriced g w s'.flow s'.excess p s'.potential (walked_sound g w S o t f d more S' K refl enough wanted) same;
       later = record { supplies = (walked_later g w S o t f d more S' K refl enough wanted).supplies; moved = (walked_later g w S o t f d more S' K refl enough wanted).moved };
@@ -46,6 +54,38 @@ augmented g w s p o t f d more enough wanted s' same k =
 
     less' : (m n : ℕ) → pos m ≡ (pos n -ℤ d) → m < n
     less' m n e = omega (arith, ints)
+
+-- the same where the excesses are written anew
+pub augmented : (g : Graph) (w : Laws g) (s : State) (e p : ℕ → ℤ) → s.excess ≡ e → (o : Sound g (record { flow = s.flow; excess = e; potential = p })) (t : Tree) (f : Found g (record { flow = s.flow; excess = e; potential = p }) t) (d : ℤ) → pos 0 <ℤ d → d ≤ℤ e t.source → d ≤ℤ neg_ℤ (e t.target) → (s' : State) → ((v : ℕ) → s'.potential v ≡ p v) → Walking g (record { flow = s.flow; excess = e; potential = p }) s' t t.source d → Augmented g s s'
+unfolding left
+augmented g w s e p q o t f d more enough wanted s' same k =
+    record { sound = A.sound; later = record { supplies = rw q A.later.supplies; moved = rw q A.later.moved }; less = rw q A.less; quiet = rw q A.quiet }
+  where
+    A : Augmented g (record { flow = s.flow; excess = e; potential = s.potential }) s'
+    A = sent g w (record { flow = s.flow; excess = e; potential = s.potential }) p o t f d more enough wanted s' same k
+
+pub none_found : (b : ℤ) (v : ℕ) (r : Option ℕ) → SomeIff r (b <ℤ far) v → is_none r ≡ true → far ≤ℤ b
+none_found b v None h e = elim (cases_lt_ℤ b far) [ inl l ↦ absurd (h l) | inr l ↦ l ]
+none_found b v (Some x) h e = cc
+
+pub some_found : {P : Type 0} (v : ℕ) (r : Option ℕ) → SomeIff r P v → is_none r ≡ false → P
+some_found v None h e = cc
+some_found v (Some x) h e = h.0
+
+-- a state from which units can go along the way found
+pub record Ready (g : Graph) (s : State) (t : Tree) : Type 0 where
+  pub sound : Sound g s
+  pub found : Found g s t
+
+-- such is what lower potentials leave
+pub ready : (f : Flow) (q : Search) (nodes : List Node) → Sound (graph f.net) (state f) → Searching (graph f.net) (state f) (graph f.net).nodes 0 (tree q) → Ended (graph f.net).nodes (tree q) → q.bound <ℤ far
+    → Lowered (length f.nodes.now) (tree q) (potential_of f.nodes.now) (potential_of nodes) → ((v : ℕ) → excess_of nodes v ≡ excess_of f.nodes.now v)
+    → Ready (graph f.net) (record { flow = (state f).flow; excess = excess_of nodes; potential = potential_of nodes }) (tree q)
+ready f q nodes o i ended found low same =
+    record {
+      sound = lowered_sound (graph f.net) f.net.formed.laws (state f) o (tree q) i ended found _ refl (fun_ext same) (rw f.nodes_len at low);
+      found = lowered_found (graph f.net) f.net.formed.laws (state f) o (tree q) i ended found _ refl (fun_ext same) (rw f.nodes_len at low);
+    }
 
 pub bound_fits : (g : Graph) (w : Laws g) (s : State) (o : Sound g s) (t : Tree) (i : Searching g s g.nodes 0 t) → t.bound <ℤ far → nat_abs t.bound ≤ 2 ^ 60 + 2 ^ 58
 bound_fits g w s o t i h = omega (arith, ints, (i.aims h).label, label_fits g w s o g.nodes 0 t i t.target (i.aims h).node (i.aims h).met)

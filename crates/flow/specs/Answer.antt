@@ -1,5 +1,5 @@
 -- What one augmentation and the solver leave.
-use Rattle.std.specs.Prelude.{◌≡◌, ℕ, ◌*◌, ◌^◌, ◌<◌, ◌≤◌, ◌⊎◌, ℤ, pos, ◌+ℤ◌, neg_ℤ, ◌≤ℤ◌, ◌<ℤ◌, ◌≢◌, unsigned_abs}
+use Rattle.std.specs.Prelude.{◌≡◌, ℕ, ◌*◌, ◌^◌, ◌<◌, ◌≤◌, ◌⊎◌, ℤ, pos, ◌+ℤ◌, neg_ℤ, ◌≤ℤ◌, ◌<ℤ◌, ◌≢◌, unsigned_abs, Result, Ok, Err}
 use borrow.Author.Differences.{up}
 use Rattle.sums.specs.Sum.{sum_ℤ, sum_to}
 use Rattle.network.specs.Graph.{Graph, Laws, gains, room, IsFlow, Priced}
@@ -8,8 +8,7 @@ use Rattle.network.specs.Sound.{State, Sound, supply, left, Later}
 use Rattle.ways.specs.Tree.{Tree}
 use Rattle.ways.specs.Way.{OnWay, Chain}
 use Rattle.flow.specs.Start.{started}
-use Rattle.flow.specs.declared.Answer.{Answer}
-use Rattle.flow.specs.declared.Answer.TheVariants.{Settled, Stuck}
+use Rattle.flow.specs.declared.stuck.Stuck.{Stuck}
 
 -- something has gone from a node in excess to one that lacks it
 pub record Augmented (g : Graph) (s s' : State) : Type 0 where
@@ -34,13 +33,13 @@ pub record Overfull (g : Graph) (s : State) (place : ℕ → ℕ) (k : ℕ) : Ty
   pub some : (v : ℕ) × (v < g.nodes) × (place v < k) × (pos 0 <ℤ s.excess v)
 
 -- nothing is in excess and nothing lacks, or a set of nodes has more than can leave it
-abbrev pub Outcome : Graph → State → (ℕ → ℕ) → Answer → Type 0
-Outcome g s place Settled = (v : ℕ) → v < g.nodes → s.excess v ≡ pos 0
-Outcome g s place (Stuck k) = Overfull g s place k
+abbrev pub Outcome : Graph → State → (ℕ → ℕ) → Result (Unit {0}) Stuck → Type 0
+Outcome g s place (Ok _) = (v : ℕ) → v < g.nodes → s.excess v ≡ pos 0
+Outcome g s place (Err stuck) = Overfull g s place stuck.nodes
 
 -- what the solver promises of supplies e: a flow with potentials, of which |potential| is at most 2 n C and which an arc's flow has left by no more than
 -- all supplies and all that arcs gain; and that the flow meets the supplies, or a set that shows that none does
-pub record Solved (g : Graph) (e : ℕ → ℤ) (s : State) (place : ℕ → ℕ) (r : Answer) : Type 0 where
+pub record Solved (g : Graph) (e : ℕ → ℤ) (s : State) (place : ℕ → ℕ) (r : Result (Unit {0}) Stuck) : Type 0 where
   pub flows : IsFlow g s.flow
   pub priced : Priced g s.flow s.potential
   pub bounded : (v : ℕ) → v < g.nodes → unsigned_abs (s.potential v) ≤ 2 ^ 31 * g.nodes
@@ -49,13 +48,13 @@ pub record Solved (g : Graph) (e : ℕ → ℤ) (s : State) (place : ℕ → ℕ
   pub answer : Outcome g s place r
 
 -- that is: the flow meets the supplies, and none that does costs less; or none meets them
-abbrev pub Meaning : Graph → (ℕ → ℤ) → (ℕ → ℤ) → Answer → Type 0
-Meaning g e x Settled = Meets g x e × ((y : ℕ → ℤ) → IsFlow g y → Meets g y e → total_cost g x ≤ℤ total_cost g y)
-Meaning g e x (Stuck k) = (y : ℕ → ℤ) → IsFlow g y → Meets g y e → ⊥
+abbrev pub Meaning : Graph → (ℕ → ℤ) → (ℕ → ℤ) → Result (Unit {0}) Stuck → Type 0
+Meaning g e x (Ok _) = Meets g x e × ((y : ℕ → ℤ) → IsFlow g y → Meets g y e → total_cost g x ≤ℤ total_cost g y)
+Meaning g e x (Err _) = (y : ℕ → ℤ) → IsFlow g y → Meets g y e → ⊥
 
 -- the second answer does not come where arcs whose limits take all supplies join every two nodes
 abbrev pub NeverStuck : Type 0
 NeverStuck =
     (g : Graph) → Laws g → (e : ℕ → ℤ) → sum_ℤ g.nodes e ≡ pos 0 →
     ((u v : ℕ) → u < g.nodes → v < g.nodes → Joined g (pos (sum_to g.nodes (λ w. up (e w)))) u v) →
-    (s : State) (place : ℕ → ℕ) (k : ℕ) → Solved g e s place (Stuck k) → ⊥
+    (s : State) (place : ℕ → ℕ) (stuck : Stuck) → Solved g e s place (Err stuck) → ⊥

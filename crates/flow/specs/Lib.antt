@@ -1,2 +1,4 @@
 pub mod Answer
+pub mod Same
 pub mod Start
+pub mod Tried

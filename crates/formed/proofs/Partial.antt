@@ -5,7 +5,7 @@ use Rattle.std.proofs.lemmas.Int.{ints}
 use Rattle.std.proofs.lemmas.Bool.{cond-true, cond-false}
 use Rattle.sums.specs.Sum.{sum_ℤ}
 use Rattle.sums.proofs.Sum.{sum_ℤ_split, sum_ℤ_nonneg}
-use Rattle.network.specs.Graph.{Graph, Arc, gains}
+use Rattle.network.specs.Graph.{Graph, IsArc, gains}
 use Rattle.network.proofs.Points.{cases_lt_ℤ, lt_yes, lt_no}
 
 pub sum_none : (f : ℕ → ℤ) → sum_ℤ 0 f ≡ pos 0
@@ -16,13 +16,13 @@ pub sum_more : (k : ℕ) (f : ℕ → ℤ) → sum_ℤ (k + 1) f ≡ (sum_ℤ k 
 unfolding sum_ℤ
 sum_more k f = rw (add-one k) refl
 
-gains_some : (g : Graph) (a : ℕ) → Arc g a → pos 0 ≤ℤ gains g a
+gains_some : (g : Graph) (a : ℕ) → IsArc g a → pos 0 ≤ℤ gains g a
 gains_some g a h = elim (cases_lt_ℤ (g.cost a) (pos 0)) [
   | inl l ↦ omega (arith, ints, cond-true (lt_z (g.cost a) (pos 0)) (g.limit a) (pos 0) (lt_yes (g.cost a) (pos 0) l), h.allowed)
   | inr l ↦ omega (arith, ints, cond-false (lt_z (g.cost a) (pos 0)) (g.limit a) (pos 0) (lt_no (g.cost a) (pos 0) l))
 ]
 
-pub part_below : (g : Graph) → ((a : ℕ) → a < g.arcs → Arc g a) → (k : ℕ) → k ≤ g.arcs → sum_ℤ k (gains g) ≤ℤ sum_ℤ g.arcs (gains g)
+pub part_below : (g : Graph) → ((a : ℕ) → a < g.arcs → IsArc g a) → (k : ℕ) → k ≤ g.arcs → sum_ℤ k (gains g) ≤ℤ sum_ℤ g.arcs (gains g)
 part_below g arcs k h =
     omega (arith, ints, sum_ℤ_split k (g.arcs - k) (gains g), sum_ℤ_nonneg (g.arcs - k) (λ i. gains g (k + i)) (λ i l. gains_some g (k + i) (arcs (k + i) (omega (arith, h, l)))), ap (λ (m : ℕ). sum_ℤ m (gains g)) whole)
   where

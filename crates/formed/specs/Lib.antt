@@ -1,1 +1,2 @@
-pub mod Decides
+pub mod Lists
+pub mod Parts

@@ -1,183 +1,129 @@
-// Whether any lent slices make a well-formed network.
+// Networks from any lent lists, tested first.
 #![tactic(auto)]
 
-ghost use Rattle.std.specs.Prelude.{◌≡◌, ℕ, ◌+◌, ◌-◌, ◌*◌, ◌^◌, ◌<◌, ◌≤◌, true, false, length, ℤ, pos, ◌+ℤ◌, ◌≤ℤ◌, ◌<ℤ◌};
-ghost use Rattle.network.specs.Graph.{Graph, graph, Arc, WellFormed, gains};
+ghost use Rattle.std.specs.Prelude.{◌≡◌, ℕ, ◌+◌, ◌-◌, ◌^◌, ◌<◌, ◌≤◌, ◌↔◌, length, pos, ◌≤ℤ◌, IsTrue, IfOk, OnErr};
+ghost use Rattle.network.specs.Graph.{IsArc, WellFormed, gains};
 ghost use Rattle.sums.specs.Sum.{sum_ℤ};
-ghost use Rattle.formed.specs.Decides.{Decides, Grouped, Paired, Convex, Long};
+ghost use Rattle.formed.specs.Lists.{graph};
+ghost use Rattle.formed.specs.Parts.{Grouped, Paired, Convex, Rising};
 
-use network::Network;
+use network::{Arc, Network};
 
-// Whether the slices are as long as they should be.
-fn long(net: &Network) -> bool
-    ensures { Decides (Long net.now.nodes (length net.now.first.now) (length net.now.tail.now) (length net.now.head.now) (length net.now.pair.now) (length net.now.cost.now) (length net.now.limit.now)) result }
-{
-    let n = net.nodes;
-    let arcs = net.tail.len();
-    if n > 268435456 {
-        return false;
-    }
-    if arcs > 4294967296 {
-        return false;
-    }
-    if net.first.len() != n + 1 {
-        return false;
-    }
-    if net.head.len() != arcs {
-        return false;
-    }
-    if net.pair.len() != arcs {
-        return false;
-    }
-    if net.cost.len() != arcs {
-        return false;
-    }
-    net.limit.len() == arcs
+/// Lists that may make a network: where the arcs of each node begin, with one end more, and the arcs.
+#[derive(Clone, Copy)]
+pub struct Lists<'a> {
+    pub first: &'a [usize],
+    pub arcs: &'a [Arc],
 }
 
-// Whether arc `a` lies among those of its tail.
-fn grouped(net: &Network, a: usize) -> bool
-    requires arc { a < length net.now.tail.now }
-    requires long { Long net.now.nodes (length net.now.first.now) (length net.now.tail.now) (length net.now.head.now) (length net.now.pair.now) (length net.now.cost.now) (length net.now.limit.now) }
-    ensures { Decides (Grouped (graph net.now) a) result }
-{
-    let t = net.tail[a];
-    if t >= net.nodes {
-        return false;
-    }
-    if net.head[a] >= net.nodes {
-        return false;
-    }
-    if net.first[t] > a {
-        return false;
-    }
-    a < net.first[t + 1]
-}
+/// Lists that make no well-formed network.
+#[derive(Clone, Copy, PartialEq, Eq, Debug)]
+pub struct Malformed;
 
-// Whether the pair of arc `a` is the same edge the other way.
-fn paired(net: &Network, a: usize) -> bool
-    requires arc { a < length net.now.tail.now }
-    requires long { Long net.now.nodes (length net.now.first.now) (length net.now.tail.now) (length net.now.head.now) (length net.now.pair.now) (length net.now.cost.now) (length net.now.limit.now) }
-    ensures { Decides (Paired (graph net.now) a) result }
-{
-    let b = net.pair[a];
-    if b >= net.tail.len() {
-        return false;
+impl<'a> Lists<'a> {
+    // How many nodes they tell of.
+    fn nodes(&self) -> usize
+        ensures { result ≡ (graph self.now).nodes }
+    {
+        self.first.len().saturating_sub(1)
     }
-    if b == a {
-        return false;
-    }
-    if net.pair[b] != a {
-        return false;
-    }
-    net.tail[b] == net.head[a]
-}
 
-// Whether the cost and the limit of arc `a` are in range, and a unit there and back costs nothing or more.
-fn convex(net: &Network, a: usize) -> bool
-    requires arc { (a < length net.now.tail.now) × ((graph net.now).pair a < length net.now.tail.now) }
-    requires long { Long net.now.nodes (length net.now.first.now) (length net.now.tail.now) (length net.now.head.now) (length net.now.pair.now) (length net.now.cost.now) (length net.now.limit.now) }
-    ensures { Decides (Convex (graph net.now) a) result }
-{
-    let c = net.cost[a];
-    if c > 1073741824 {
-        return false;
+    // Whether the arcs of each node end where those of the next begin, and all are among the arcs.
+    fn rises(&self) -> bool
+        ensures { IsTrue result ↔ Rising self.now.first.now (graph self.now).arcs }
+    {
+        self.first.is_sorted() && self.first.last().is_some_and(|&end| end <= self.arcs.len())
     }
-    if c < -1073741824 {
-        return false;
-    }
-    if net.limit[a] < 0 {
-        return false;
-    }
-    if net.limit[a] > 1152921504606846976 {
-        return false;
-    }
-    let d = net.cost[net.pair[a]];
-    if d < -c {
-        return false;
-    }
-    true
-}
 
-// Whether arc `a` is as it should be.
-fn arc_formed(net: &Network, a: usize) -> bool
-    requires arc { a < length net.now.tail.now }
-    requires long { Long net.now.nodes (length net.now.first.now) (length net.now.tail.now) (length net.now.head.now) (length net.now.pair.now) (length net.now.cost.now) (length net.now.limit.now) }
-    ensures { Decides (Arc (graph net.now) a) result }
-{
-    if !grouped(net, a) {
-        return false;
+    // Whether arc `a` lies among those of its tail.
+    fn grouped(&self, a: usize) -> bool
+        requires { a < (graph self.now).arcs }
+        ensures { IsTrue result ↔ Grouped (graph self.now) a }
+    {
+        let arc = self.arcs[a];
+        let n = self.nodes();
+        arc.tail < n && arc.head < n && self.first[arc.tail] <= a && a < self.first[arc.tail + 1]
     }
-    if !paired(net, a) {
-        return false;
-    }
-    convex(net, a)
-}
 
-// Whether all arcs are.
-fn arcs_formed(net: &Network) -> bool
-    requires long { Long net.now.nodes (length net.now.first.now) (length net.now.tail.now) (length net.now.head.now) (length net.now.pair.now) (length net.now.cost.now) (length net.now.limit.now) }
-    ensures { Decides ((a : ℕ) → a < length net.now.tail.now → Arc (graph net.now) a) result }
-{
-    for a in 0..net.tail.len() {
-        if !arc_formed(net, a) {
-            return false;
+    // Whether the pair of arc `a` is the same edge the other way.
+    fn paired(&self, a: usize) -> bool
+        requires { a < (graph self.now).arcs }
+        ensures { IsTrue result ↔ Paired (graph self.now) a }
+    {
+        let arc = self.arcs[a];
+        let b = arc.pair;
+        b < self.arcs.len() && b != a && self.arcs[b].pair == a && self.arcs[b].tail == arc.head
+    }
+
+    // Whether the cost and the limit of arc `a` are in range, and a unit there and back costs nothing or more.
+    fn convex(&self, a: usize) -> bool
+        requires arc { a < (graph self.now).arcs }
+        requires pair { (graph self.now).pair a < (graph self.now).arcs }
+        ensures { IsTrue result ↔ Convex (graph self.now) a }
+    {
+        let arc = self.arcs[a];
+        arc.cost.unsigned_abs() <= 1 << 30
+            && 0 <= arc.limit
+            && arc.limit <= 1 << 60
+            && -arc.cost <= self.arcs[arc.pair].cost
+    }
+
+    // Whether arc `a` is as it should be.
+    fn arc_formed(&self, a: usize) -> bool
+        requires { a < (graph self.now).arcs }
+        ensures { IsTrue result ↔ IsArc (graph self.now) a }
+    {
+        self.grouped(a) && self.paired(a) && self.convex(a)
+    }
+
+    // Whether all arcs are.
+    fn arcs_formed(&self) -> bool
+        ensures { IsTrue result ↔ ((a : ℕ) → a < (graph self.now).arcs → IsArc (graph self.now) a) }
+    {
+        (0..self.arcs.len()).all(|a| self.arc_formed(a))
+    }
+
+    // What arc `a` takes if it costs less than nothing.
+    fn gain(&self, a: usize) -> i64
+        requires arc { a < (graph self.now).arcs }
+        requires formed { IsArc (graph self.now) a }
+        ensures value { result ≡ gains (graph self.now) a }
+        ensures low { pos 0 ≤ℤ result }
+        ensures high { result ≤ℤ pos (2 ^ 60) }
+    {
+        let arc = self.arcs[a];
+        if arc.cost < 0 { arc.limit } else { 0 }
+    }
+
+    // Whether arcs that cost less than nothing take few enough in all.
+    fn gains_few(&self) -> bool
+        requires { (a : ℕ) → a < (graph self.now).arcs → IsArc (graph self.now) a }
+        ensures { IsTrue result ↔ (sum_ℤ (graph self.now).arcs (gains (graph self.now)) ≤ℤ pos (2 ^ 59)) }
+    {
+        let mut sum = 0;
+        for a in 0..self.arcs.len() {
+            sum += self.gain(a);
+            if sum > 1 << 59 {
+                return false;
+            }
+        }
+        true
+    }
+
+    /// The network of these lists, if they make a well-formed one.
+    pub fn network(self) -> Result<Network<'a>, Malformed>
+        ensures first { IfOk result (λ net. net.first ≡ self.entry.first) }
+        ensures arcs { IfOk result (λ net. net.arcs ≡ self.entry.arcs) }
+        ensures malformed { OnErr result (WellFormed self.entry.first.now self.entry.arcs.now → ⊥) }
+    {
+        let few = self.nodes() <= 1 << 28 && self.arcs.len() <= 1 << 32;
+        if few && self.rises() && self.arcs_formed() && self.gains_few() {
+            Ok(Network {
+                first: self.first,
+                arcs: self.arcs,
+            })
+        } else {
+            Err(Malformed)
         }
     }
-    true
-}
-
-// Whether the arcs of each node end where those of the next begin, and all are among the arcs.
-fn rises(net: &Network) -> bool
-    requires long { Long net.now.nodes (length net.now.first.now) (length net.now.tail.now) (length net.now.head.now) (length net.now.pair.now) (length net.now.cost.now) (length net.now.limit.now) }
-    ensures { Decides (((v : ℕ) → v < net.now.nodes → (graph net.now).first v ≤ (graph net.now).first (v + 1)) × ((graph net.now).first net.now.nodes ≤ length net.now.tail.now)) result }
-{
-    for v in 0..net.nodes {
-        if net.first[v] > net.first[v + 1] {
-            return false;
-        }
-    }
-    net.first[net.nodes] <= net.tail.len()
-}
-
-// What arc `a` takes if it costs less than nothing.
-fn gain(net: &Network, a: usize) -> i64
-    requires arc { (a < length net.now.tail.now) × (Arc (graph net.now) a) }
-    requires long { Long net.now.nodes (length net.now.first.now) (length net.now.tail.now) (length net.now.head.now) (length net.now.pair.now) (length net.now.cost.now) (length net.now.limit.now) }
-    ensures value { result ≡ gains (graph net.now) a }
-    ensures some { (pos 0 ≤ℤ result) × (result ≤ℤ pos (2 ^ 60)) }
-{
-    if net.cost[a] < 0 { net.limit[a] } else { 0 }
-}
-
-// Whether arcs that cost less than nothing take few enough in all.
-fn gains_few(net: &Network) -> bool
-    requires long { Long net.now.nodes (length net.now.first.now) (length net.now.tail.now) (length net.now.head.now) (length net.now.pair.now) (length net.now.cost.now) (length net.now.limit.now) }
-    requires arcs { (a : ℕ) → a < length net.now.tail.now → Arc (graph net.now) a }
-    ensures { Decides (sum_ℤ (length net.now.tail.now) (gains (graph net.now)) ≤ℤ pos (2 ^ 59)) result }
-{
-    let mut sum = 0i64;
-    for a in 0..net.tail.len() {
-        sum += gain(net, a);
-        if sum > 576460752303423488 {
-            return false;
-        }
-    }
-    true
-}
-
-/// Whether the slices make a well-formed network.
-pub fn well_formed(net: &Network) -> bool
-    ensures { Decides (WellFormed net.now) result }
-{
-    if !long(net) {
-        return false;
-    }
-    if !rises(net) {
-        return false;
-    }
-    if !arcs_formed(net) {
-        return false;
-    }
-    gains_few(net)
 }

@@ -1,7 +1,8 @@
 -- The first wrong place of a list is what its definition in words says.
-use Rattle.std.proofs.Common.{◌≡◌, ℕ, zero, suc, ◌*◌, ◌<◌, ◌≤◌, Bool, true, false, ltb, List, [], ◌∷◌, get_or, replicate, Some, None, Option, refl, ap, ◌∙◌, arith}
+use Rattle.std.proofs.Common.{◌≡◌, ℕ, zero, suc, ◌*◌, ◌<◌, ◌≤◌, ◌+◌, ◌-◌, Bool, true, false, ltb, List, [], ◌∷◌, ◌++◌, length, drop, get_or, replicate, Some, None, Option, refl, sym, ap, ◌∙◌, inl, inr, arith}
 use lib.ListN.{get_or-replicate, length-replicate}
-use Rattle.std.proofs.lemmas.List.{get_or_past}
+use Rattle.std.proofs.lemmas.Bool.{cases_lt}
+use Rattle.std.proofs.lemmas.List.{get_or_past, get_or_append_left, get_or-append_right, get_or-drop}
 use Rattle.std.proofs.lemmas.Nat.{mul-le}
 use Rattle.std.proofs.lemmas.Bool.Decides.{nat_tests}
 use Rattle.grid.specs.Lists.{one_on, if_below, first_wrong, RightList, WrongFirst}
@@ -62,3 +63,11 @@ small_everywhere n b xs h p k = grind (arith, get_or_past, h.small k, h.long)
 
 pub few_places : (w h : ℕ) → w ≤ 64 → h ≤ 64 → w * h ≤ 4096
 few_places w h a b = mul-le w h 64 64 a b
+
+-- a list with zeros after it says the same
+pub padded : (xs ys : List ℕ) (n m : ℕ) → ys ≡ xs → (k : ℕ) → get_or (ys ++ drop n (replicate m 0)) k 0 ≡ get_or xs k 0
+padded xs ys n m e k = rw e (elim (cases_lt k (length xs)) [
+  | inl within ↦ get_or_append_left xs (drop n (replicate m 0)) 0 k within
+  | inr past ↦ get_or-append_right xs (drop n (replicate m 0)) (length xs) k 0 refl past
+      ∙ get_or-drop n (replicate m 0) (k - length xs) 0 ∙ get_or_same m (n + (k - length xs)) 0 ∙ sym (get_or_past xs k 0 past)
+])

@@ -6,7 +6,8 @@ use Rattle.std.proofs.lemmas.Int.{ints}
 use Rattle.grid.specs.declared.square.Off.{Off}
 use Rattle.grid.specs.declared.square.Off.TheVariants.{Less, Back, More}
 use Rattle.grid.specs.Field.{Field, near, round}
-use Rattle.grid.specs.Square.{round_of, off_by, is_off, counted, squares_off, off_between, row_off, Compared}
+use Rattle.grid.specs.Model.{column, row}
+use Rattle.grid.specs.Square.{round_of, round_from, off_by, is_off, counted, squares_off, off_between, row_off, Compared}
 use Rattle.grid.proofs.Near.{round_one_turn}
 
 -- a number that is nothing, a turn more or a turn less is told by its sign
@@ -32,6 +33,10 @@ off_by_sign t a b c d o u v la lb lc ld e g s =
 pub round_is : (f : Field) (x y a b c d : ℕ) →
     a ≡ f.seen x y → b ≡ f.seen (x + 1) y → c ≡ f.seen x (y + 1) → d ≡ f.seen (x + 1) (y + 1) → round f x y ≡ round_of f.turn a b c d
 round_is f x y a b c d p q r s = let ex = add-one x in let ey = add-one y in cc
+
+-- the square at a place that is told by its number
+pub round_at : (f : Field) (p x y : ℕ) → ◌≡◌ {A = ℕ × ℕ} (x, y) (column f p, row f p) → round_from f p ≡ round f x y
+round_at f p x y e = ap (λ (q : ℕ × ℕ). round f q.0 q.1) (sym e)
 
 -- a square that is off by a turn is off
 pub is_off_is : (t : ℕ) (o : Off) (r : ℤ) → 0 < t → r ≡ off_by o *ℤ pos t → is_off r ≡ counted o

@@ -1,4 +1,5 @@
 pub mod Field
+pub mod Lent
 pub mod Lists
 pub mod Model
 pub mod Near

@@ -26,6 +26,9 @@ round_of t a b c d =
 abbrev pub HasSquare : Field → ℕ → Type 0
 HasSquare f p = (suc (column f p) < f.wide) × (suc (row f p) < f.high)
 
+abbrev pub round_from : Field → ℕ → ℤ
+round_from f p = round f (column f p) (row f p)
+
 -- 1 for a square that is off
 abbrev pub is_off : ℤ → ℕ
 is_off (pos zero) = 0

@@ -14,12 +14,20 @@ pub fn row_of<T>(all: &[T], wide: usize, y: usize) -> &[T]
 }
 
 impl Field {
+    // A row of a list of the field.
+    fn row<'a>(&'a self, list: &'a [u32; 4096], y: usize) -> &'a [u32]
+        requires { y < self.now.high }
+        ensures { Row self.now.wide y list.now result.now }
+    {
+        row_of(list, self.wide, y)
+    }
+
     // A row of what was seen.
     pub fn seen_row(&self, y: usize) -> &[u32]
         requires { y < self.now.high }
         ensures { Row self.now.wide y self.now.seen result.now }
     {
-        row_of(&self.seen, self.wide, y)
+        self.row(&self.seen, y)
     }
 
     // The prices of the steps to the right in a row.
@@ -27,7 +35,7 @@ impl Field {
         requires { y < self.now.high }
         ensures { Row self.now.wide y self.now.right result.now }
     {
-        row_of(&self.right, self.wide, y)
+        self.row(&self.right, y)
     }
 
     // The prices of the steps down from a row.
@@ -35,6 +43,6 @@ impl Field {
         requires { y < self.now.high }
         ensures { Row self.now.wide y self.now.below result.now }
     {
-        row_of(&self.below, self.wide, y)
+        self.row(&self.below, y)
     }
 }

@@ -1,11 +1,11 @@
 // What squares are off by.
-ghost use Rattle.std.specs.Prelude.{◌≡◌, ◌<◌, pos, ◌*ℤ◌, MatchOption};
-ghost use Rattle.grid.specs.Field.{round};
-ghost use Rattle.grid.specs.Model.{field_of, row, column};
-ghost use Rattle.grid.specs.Square.{round_of, off_by, counted, row_off, squares_off, Compared, HasSquare, Rows};
+ghost use Rattle.std.specs.Prelude.{◌≡◌, ◌<◌, pos, ◌*ℤ◌, IfSome, IfNone};
+ghost use Rattle.grid.specs.Model.{field_of};
+ghost use Rattle.grid.specs.Square.{round_of, round_from, off_by, counted, row_off, squares_off, Compared, HasSquare, Rows};
 
 use crate::field::Field;
 use crate::steps::expected;
+use std::cmp::Ordering;
 
 // By how much what is expected doesn't come back round a square, right and down against down and right: a turn less, nothing, or a
 // turn more.
@@ -20,18 +20,19 @@ pub enum Off {
 fn compared(over: i64, under: i64) -> Off
     ensures { Compared over under result }
 {
-    if over > under {
-        Off::More
-    } else if over < under {
-        Off::Less
-    } else {
-        Off::Back
+    match over.cmp(&under) {
+        Ordering::Less => Off::Less,
+        Ordering::Equal => Off::Back,
+        Ordering::Greater => Off::More,
     }
 }
 
 // Round the square of the numbers a and b over c and d.
 pub fn round_of(turn: u32, a: u32, b: u32, c: u32, d: u32) -> Off
-    requires { (a < turn) × ((b < turn) × ((c < turn) × (d < turn))) }
+    requires a { a < turn }
+    requires b { b < turn }
+    requires c { c < turn }
+    requires d { d < turn }
     ensures { round_of turn a b c d ≡ off_by result *ℤ pos turn }
 {
     let over = expected(turn, a, b) + expected(turn, b, d);
@@ -42,11 +43,12 @@ pub fn round_of(turn: u32, a: u32, b: u32, c: u32, d: u32) -> Off
 impl Field {
     // What the square to the right of a place and below it is off by; None where there is none.
     pub fn square(&self, place: usize) -> Option<Off>
-        ensures { MatchOption result (HasSquare (field_of self.now) place → ⊥) (λ o. HasSquare (field_of self.now) place × (round (field_of self.now) (column (field_of self.now) place) (row (field_of self.now) place) ≡ off_by o *ℤ pos self.now.turn)) }
+        ensures some { IfSome result (λ o. HasSquare (field_of self.now) place) }
+        ensures none { IfNone result (HasSquare (field_of self.now) place → ⊥) }
+        ensures round { IfSome result (λ o. round_from (field_of self.now) place ≡ off_by o *ℤ pos self.now.turn) }
     {
-        let x = place % self.wide;
-        let y = place / self.wide;
-        if y >= self.high - 1 || x + 1 >= self.wide {
+        let (x, y) = self.position(place)?;
+        if x + 1 >= self.wide || y + 1 >= self.high {
             return None;
         }
         let a = self.seen_at(x, y);
@@ -61,10 +63,7 @@ impl Field {
 fn counted(off: Off) -> usize
     ensures { result ≡ counted off }
 {
-    match off {
-        Off::Back => 0,
-        Off::Less | Off::More => 1,
-    }
+    usize::from(off != Off::Back)
 }
 
 // How many squares are off between a row of what was seen and the one below it.

@@ -1,7 +1,6 @@
 // Fields taken from the lists that are lent.
-ghost use Rattle.std.specs.Prelude.{◌≡◌, ℕ, ◌*◌, ◌≤◌, length, Some, None, MatchResult, slice_index};
-ghost use Rattle.grid.specs.Model.{Holds};
-ghost use Rattle.grid.specs.Verdict.{Judged};
+ghost use Rattle.std.specs.Prelude.{◌≡◌, ℕ, ◌*◌, ◌≤◌, length, Some, None, IfOk, IfErr, slice_index};
+ghost use Rattle.grid.specs.Lent.{HoldsLent, IsJudged};
 
 use crate::field::Field;
 use crate::refusal::Refusal;
@@ -13,16 +12,16 @@ fn copied(list: &[u32]) -> [u32; 4096]
     ensures { (k : ℕ) → slice_index result k ≡ slice_index list.now k }
 {
     let mut all = [0; 4096];
-    for (i, x) in list.iter().enumerate() {
-        all[i] = *x;
-    }
+    all[..list.len()].copy_from_slice(list);
     all
 }
 
 impl Field {
     // The field that is lent, or why it is turned away, with a room of so many numbers for its turns.
     pub fn take(lent: &Lent<'_, '_, '_>, room: u64) -> Result<Field, Refusal>
-        ensures { MatchResult result (λ f. Judged lent.now.wide lent.now.high lent.now.turn lent.now.seen.now lent.now.right.now lent.now.below.now room None × Holds lent.now.wide lent.now.high lent.now.turn lent.now.seen.now lent.now.right.now lent.now.below.now f) (λ e. Judged lent.now.wide lent.now.high lent.now.turn lent.now.seen.now lent.now.right.now lent.now.below.now room (Some e)) }
+        ensures taken { IfOk result (λ f. IsJudged lent.now room None) }
+        ensures holds { IfOk result (λ f. HoldsLent lent.now f) }
+        ensures refused { IfErr result (λ e. IsJudged lent.now room (Some e)) }
     {
         match lent.refusal(room) {
             Some(refusal) => Err(refusal),

@@ -3,50 +3,36 @@ ghost use Rattle.grid.specs.Verdict.{OneVerdict};
 ghost use Rattle.grid.specs.Promise.{NearLies, ExpectedLies, WholeTurns, OneTurn, HalfUpward, NearUnique};
 
 // What is expected of a difference of less than a turn lies within half a turn.
-pub fn near_lies() -> u8
+pub fn near_lies()
     ensures { NearLies }
-{
-    0
-}
+{}
 
 // So do the expected steps of a field.
-pub fn expected_lies() -> u8
+pub fn expected_lies()
     ensures { ExpectedLies }
-{
-    0
-}
+{}
 
 // Steps differ from what is expected by whole turns, to the right and down.
-pub fn whole_turns() -> u8
+pub fn whole_turns()
     ensures { WholeTurns }
-{
-    0
-}
+{}
 
 // Round a square it is nothing, a turn more or a turn less.
-pub fn one_turn() -> u8
+pub fn one_turn()
     ensures { OneTurn }
-{
-    0
-}
+{}
 
 // Half a turn counts upward, whichever way it was seen.
-pub fn half_upward() -> u8
+pub fn half_upward()
     ensures { HalfUpward }
-{
-    0
-}
+{}
 
 // Only one number within half a turn differs from what is expected by whole turns.
-pub fn near_unique() -> u8
+pub fn near_unique()
     ensures { NearUnique }
-{
-    0
-}
+{}
 
 // What is decided is the first reason that applies, and nothing else is.
-pub fn one_verdict() -> u8
+pub fn one_verdict()
     ensures { OneVerdict }
-{
-    0
-}
+{}

@@ -1,7 +1,8 @@
 // Whether a field is taken, or why it is turned away.
 ghost use Rattle.std.specs.Prelude.{◌≡◌, ◌≤◌, MatchOption};
 ghost use Rattle.grid.specs.Lists.{RightList, WrongFirst};
-ghost use Rattle.grid.specs.Verdict.{Judged, wrong_size};
+ghost use Rattle.grid.specs.Lent.{IsJudged};
+ghost use Rattle.grid.specs.Verdict.{wrong_size};
 
 use crate::refusal::{Dimension, Refusal};
 
@@ -20,13 +21,13 @@ pub struct Lent<'s, 'r, 'b> {
 pub fn wrong_dimension(wide: u64, high: u64, turn: u64) -> Option<Dimension>
     ensures { result ≡ wrong_size wide high turn }
 {
-    if wide < 1 || wide > 64 {
+    if !(1..=64).contains(&wide) {
         return Some(Dimension::Wide);
     }
-    if high < 1 || high > 64 {
+    if !(1..=64).contains(&high) {
         return Some(Dimension::High);
     }
-    if turn < 2 || turn > 65536 {
+    if !(2..=65536).contains(&turn) {
         return Some(Dimension::Turn);
     }
     None
@@ -37,10 +38,7 @@ pub fn first_wrong(list: &[u32], places: u64, bound: u64) -> Option<u64>
     ensures { MatchOption result (RightList places bound list.now) (λ p. WrongFirst places bound list.now p) }
 {
     for (i, x) in list.iter().enumerate() {
-        if i as u64 >= places {
-            return Some(i as u64);
-        }
-        if *x as u64 >= bound {
+        if i as u64 >= places || u64::from(*x) >= bound {
             return Some(i as u64);
         }
     }
@@ -53,7 +51,7 @@ pub fn first_wrong(list: &[u32], places: u64, bound: u64) -> Option<u64>
 impl Lent<'_, '_, '_> {
     // Why a field, and a room of so many numbers for its turns, are turned away: the first reason that applies.
     pub fn refusal(&self, room: u64) -> Option<Refusal>
-        ensures { Judged self.now.wide self.now.high self.now.turn self.now.seen.now self.now.right.now self.now.below.now room result }
+        ensures { IsJudged self.now room result }
     {
         if let Some(dimension) = wrong_dimension(self.wide, self.high, self.turn) {
             return Some(Refusal::Size(dimension));

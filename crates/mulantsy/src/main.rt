@@ -25,42 +25,42 @@ fn bytes_of(rt: &HostRuntime, file: Option<String>) -> io::Result<Vec<u8>> {
 }
 
 // Says that a word was not understood.
-fn turn_away(rt: &HostRuntime, word: &str) -> anyhow::Result<bool> {
+fn turn_away(rt: &HostRuntime, word: &str) -> anyhow::Result<ExitCode> {
     eprintln!(rt; "mulantsy: {word}: an unknown option or a second file")?;
     eprint!(rt; "{USAGE}")?;
-    Ok(false)
+    Ok(ExitCode::FAILURE)
 }
 
-// Prints what is asked of a file; false where it is turned away.
-fn show(rt: &HostRuntime, view: View, file: Option<String>) -> anyhow::Result<bool> {
+// Prints what is asked of a file, or why it is turned away.
+fn show(rt: &HostRuntime, view: View, file: Option<String>) -> anyhow::Result<ExitCode> {
     let bytes = bytes_of(rt, file)?;
     match answer_to_text(rt.alloc(), bytes.as_slice(), view) {
         Ok(text) => {
             print!(rt; "{text}")?;
-            Ok(true)
+            Ok(ExitCode::SUCCESS)
         }
         Err(Unread::Refused(refusal)) => {
             let line = refusal_line(rt.alloc(), refusal)?;
             eprintln!(rt; "{line}")?;
-            Ok(false)
+            Ok(ExitCode::FAILURE)
         }
         Err(Unread::Memory) => Err(anyhow!("out of memory")),
     }
 }
 
-// Does what the command line asks for; false where something is turned away.
-fn run(rt: &HostRuntime) -> anyhow::Result<bool> {
+// Does what the command line asks for.
+fn run(rt: &HostRuntime) -> anyhow::Result<ExitCode> {
     let mut view = View::Heights(Form::Rows);
     let mut file: Option<String> = None;
     for word in env::args(rt)?.skip(1) {
         match word_of(word.as_str()) {
             Word::Help => {
                 print!(rt; "{USAGE}")?;
-                return Ok(true);
+                return Ok(ExitCode::SUCCESS);
             }
             Word::Version => {
                 println!(rt; "mulantsy 0.1.0")?;
-                return Ok(true);
+                return Ok(ExitCode::SUCCESS);
             }
             Word::Picture => view = View::Heights(Form::Picture),
             Word::Rings => view = View::Rings,
@@ -78,8 +78,7 @@ fn run(rt: &HostRuntime) -> anyhow::Result<bool> {
 
 fn main(rt: HostRuntime) -> anyhow::Result<ExitCode> {
     match run(&rt) {
-        Ok(true) => Ok(ExitCode::SUCCESS),
-        Ok(false) => Ok(ExitCode::FAILURE),
+        Ok(status) => Ok(status),
         Err(e) => {
             eprintln!(rt; "mulantsy: {e}")?;
             Ok(ExitCode::FAILURE)

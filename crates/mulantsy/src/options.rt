@@ -1,7 +1,6 @@
 // Words of the command line.
 ghost use Rattle.std.specs.Prelude.{◌≡◌};
-ghost use Rattle.std.specs.Str.{bytes_eq};
-ghost use Rattle.mulantsy.specs.Options.{word_of, dashed};
+ghost use Rattle.mulantsy.specs.Options.{word_of};
 
 pub const USAGE: &str = "usage: mulantsy [--picture | --rings] [FILE]
 
@@ -24,36 +23,16 @@ pub enum Word {
     File,
 }
 
-// Whether two words are one.
-fn same(word: &str, other: &str) -> bool
-    ensures { result ≡ bytes_eq word.now other.now }
-{
-    word == other
-}
-
-// Whether a word begins with a dash.
-fn dashed(word: &str) -> bool
-    ensures { result ≡ dashed word.now }
-{
-    let bytes = word.as_bytes();
-    !bytes.is_empty() && bytes[0] == 45
-}
-
 // What a word asks for: what begins with a dash and is no option is unknown, and all else names a file.
 pub fn word_of(word: &str) -> Word
     ensures { result ≡ word_of word.now }
 {
-    if same(word, "--help") {
-        Word::Help
-    } else if same(word, "--version") {
-        Word::Version
-    } else if same(word, "--picture") {
-        Word::Picture
-    } else if same(word, "--rings") {
-        Word::Rings
-    } else if dashed(word) {
-        Word::Unknown
-    } else {
-        Word::File
+    match word {
+        "--help" => Word::Help,
+        "--version" => Word::Version,
+        "--picture" => Word::Picture,
+        "--rings" => Word::Rings,
+        _ if word.starts_with('-') => Word::Unknown,
+        _ => Word::File,
     }
 }

@@ -2,8 +2,8 @@
 use Rattle.std.proofs.Common.{◌≡◌, ℕ, zero, suc, ◌+◌, ◌-◌, ◌<◌, ◌≤◌, Bool, true, false, cond, eqb, ◌⊎◌, ℤ, pos, ◌-ℤ◌, neg_ℤ, nat_abs, ◌≤ℤ◌, ◌<ℤ◌, sym, refl, ap, ◌∙◌, inl, inr, arith}
 use lib.Signed.{lt_z}
 use Rattle.std.proofs.lemmas.Int.{ints}
-use Rattle.std.proofs.lemmas.Bool.{eq-eqb, ne_eqb, cases_order, cond-true, cond-false}
-use Rattle.network.specs.Graph.{Graph, at, Arc, Laws, unit_cost, room}
+use Rattle.std.proofs.lemmas.Bool.{eq-eqb, ne_eqb, cases_eq, cases_order, cond-true, cond-false}
+use Rattle.network.specs.Graph.{Graph, at, IsArc, Laws, unit_cost, room}
 
 pub lt_yes : (a b : ℤ) → a <ℤ b → lt_z a b ≡ true
 lt_yes a b h = grind (arith, ints)
@@ -29,6 +29,12 @@ at_same k i z e = cond-true (eqb i k) z (pos 0) (eq-eqb i k e)
 
 pub at_other : (k i : ℕ) (z : ℤ) → (i ≡ k → ⊥) → at k z i ≡ pos 0
 at_other k i z ne = cond-false (eqb i k) z (pos 0) (ne_eqb i k ne)
+
+pub at_neg : (k i : ℕ) (m z : ℤ) → m ≡ neg_ℤ z → at k m i ≡ neg_ℤ (at k z i)
+at_neg k i m z e = elim (cases_eq i k) [
+  | inl s ↦ omega (arith, ints, e, at_same k i m s, at_same k i z s)
+  | inr n ↦ omega (arith, ints, at_other k i m n, at_other k i z n)
+]
 
 pub unit_forward : (g : Graph) (x : ℕ → ℤ) (a : ℕ) → pos 0 ≤ℤ x a → unit_cost g x a ≡ g.cost a
 unit_forward g x a h = cond-false (lt_z (x a) (pos 0)) (neg_ℤ (g.cost (g.pair a))) (g.cost a) (lt_no (x a) (pos 0) h)
@@ -93,5 +99,5 @@ tail_is g w v a h f l = elim (cases_order (g.tail a) v) [
   | inr (inr high) ↦ absurd (omega (arith, A.from, A.tail, rising_to g w (v + 1) (g.tail a) (omega arith) (omega (arith, A.tail))))
 ]
   where
-    A : Arc g a
+    A : IsArc g a
     A = w.arc a (within_arcs g w v a h l)

@@ -6,7 +6,8 @@ use Rattle.sums.specs.Sum.{sum_ℤ}
 use Rattle.sums.proofs.Sum.{sum_ℤ_ext, sum_ℤ_add, sum_ℤ_neg}
 use Rattle.sums.proofs.Points.{point_sum}
 use Rattle.network.specs.Graph.{Graph, at, Laws, unit_cost, room, reduced_cost, outflow, IsFlow, Priced}
-use Rattle.network.proofs.Points.{cases_lt_ℤ, at_same, at_other, unit_forward, unit_backward, unit_same, room_forward, room_backward, head_pair}
+use Rattle.network.specs.Sound.{State, Pushed}
+use Rattle.network.proofs.Points.{cases_lt_ℤ, at_same, at_other, at_neg, unit_forward, unit_backward, unit_same, room_forward, room_backward, head_pair}
 
 module _ (g : Graph) (w : Laws g) (x y : ℕ → ℤ) (a : ℕ) (l : a < g.arcs) (d : ℤ) (changed : (b : ℕ) → y b ≡ ((x b +ℤ at a d b) -ℤ at (g.pair a) d b)) where
   pub pushed_here : y a ≡ (x a +ℤ d)
@@ -120,3 +121,16 @@ module _ (g : Graph) (w : Laws g) (x y : ℕ → ℤ) (a : ℕ) (l : a < g.arcs)
 
       agree : sum_ℤ g.arcs (λ b. cond (eqb (g.tail b) v) (y b) (pos 0)) ≡ sum_ℤ g.arcs (λ b. (X b +ℤ A b) +ℤ neg_ℤ (B b))
       agree = sum_ℤ_ext g.arcs (λ b. cond (eqb (g.tail b) v) (y b) (pos 0)) (λ b. (X b +ℤ A b) +ℤ neg_ℤ (B b)) (λ b h. out_term v b h)
+
+-- a push made of four single changes, by p, which is d, at one end of an arc and m, which is minus d, at the other
+pub pushed_of :
+    (g : Graph) (s t : State) (a : ℕ) (d p m : ℤ) → p ≡ d → m ≡ neg_ℤ d →
+    (x : ℕ → ℤ) → ((b : ℕ) → x b ≡ (s.flow b +ℤ at a p b)) → ((b : ℕ) → t.flow b ≡ (x b +ℤ at (g.pair a) m b)) →
+    (e : ℕ → ℤ) → ((v : ℕ) → e v ≡ (s.excess v +ℤ at (g.tail a) m v)) → ((v : ℕ) → t.excess v ≡ (e v +ℤ at (g.head a) p v)) →
+    ((v : ℕ) → t.potential v ≡ s.potential v) → Pushed g s t a d
+pushed_of g s t a d p m plus minus x here back e from to same =
+    record {
+      flow = λ b. omega (arith, ints, here b, back b, ap (λ (z : ℤ). at a z b) plus, at_neg (g.pair a) b m d minus);
+      excess = λ v. omega (arith, ints, from v, to v, ap (λ (z : ℤ). at (g.head a) z v) plus, at_neg (g.tail a) v m d minus);
+      potential = same;
+    }

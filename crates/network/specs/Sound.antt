@@ -1,10 +1,10 @@
 -- The state of a solver: a flow, what each node has in excess of it, and potentials.
-use Rattle.std.specs.Prelude.{◌≡◌, ℕ, ◌+◌, ◌*◌, ◌^◌, ◌<◌, ◌≤◌, length, ℤ, pos, ◌+ℤ◌, ◌-ℤ◌, ◌<ℤ◌, slice_index_or, unsigned_abs}
+use Rattle.std.specs.Prelude.{◌≡◌, ℕ, ◌+◌, ◌*◌, ◌^◌, ◌<◌, ◌≤◌, ℤ, pos, ◌+ℤ◌, ◌-ℤ◌, ◌<ℤ◌, slice_index_or, unsigned_abs}
 use borrow.Author.Differences.{up}
 use Rattle.sums.specs.Sum.{sum_to, sum_ℤ}
 use Rattle.network.specs.Graph.{Graph, at, outflow, IsFlow, Priced}
-use Rattle.network.specs.declared.Network.{Network}
-use Rattle.network.specs.declared.Flow.{Flow}
+use Rattle.network.specs.Node.{excess_of, potential_of}
+use Rattle.network.specs.declared.flow.Flow.{Flow}
 
 pub record State : Type 0 where
   pub flow : ℕ → ℤ
@@ -15,15 +15,9 @@ abbrev pub state : Flow → State
 state f =
     record {
       flow = λ a. slice_index_or f.flow.now a (pos 0);
-      excess = λ v. slice_index_or f.excess.now v (pos 0);
-      potential = λ v. slice_index_or f.potential.now v (pos 0);
+      excess = excess_of f.nodes.now;
+      potential = potential_of f.nodes.now;
     }
-
--- the slices of a flow are as long as the network asks
-pub record Fitting (n : Network) (f : Flow) : Type 0 where
-  pub flow : length f.flow.now ≡ length n.tail.now
-  pub excess : length f.excess.now ≡ n.nodes
-  pub potential : length f.potential.now ≡ n.nodes
 
 -- the units that are still to go somewhere
 unfoldable pub left : Graph → State → ℕ

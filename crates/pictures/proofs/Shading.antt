@@ -1,15 +1,42 @@
 -- Shades of numbers. Assumes nothing.
-use Rattle.std.proofs.Common.{◌≡◌, ℕ, zero, suc, ◌+◌, ◌*◌, ◌/◌, ◌<◌, ◌≤◌, Bool, true, false, cond, eqb, leb, List, [], ◌∷◌, ◌++◌, map, length, get_or, take, ℤ, pos, ◌-ℤ◌, nat_abs, ◌≤ℤ◌, fold, sym, refl, ap, ◌∙◌, div-mul-le_self, arith}
-use Rattle.std.proofs.lemmas.List.{map_more, take_all}
+use Rattle.std.proofs.Common.{◌≡◌, ◌⊎◌, ◌↔◌, inl, inr, subst, Option, Some, None, ℕ, zero, suc, ◌*◌, ◌/◌, ◌<◌, ◌≤◌, Bool, true, false, cond, eqb, leb, List, [], length, get_or, ℤ, pos, ◌-ℤ◌, nat_abs, ◌≤ℤ◌, sym, refl, ap, ◌∙◌, div-mul-le_self, arith}
+use Rattle.std.specs.Option.{unwrap_or, IsNone, IfSome}
+use Rattle.std.specs.List.{Contains, All}
+use Rattle.std.proofs.lemmas.List.Elements.{All-contains, Contains-get_or}
 use Rattle.std.proofs.ByRecursion.{All-get_or, folded_min_z_bounds}
 use Rattle.std.proofs.lemmas.Nat.{div_below, le-div}
-use Rattle.std.proofs.lemmas.Int.{ints}
+use Rattle.std.proofs.lemmas.Int.{ints, fold-int_min_bounds, fold-int_min_reached, fold-int_max_bounds, fold-int_max_reached}
 use Rattle.std.proofs.lemmas.Bool.{eqb-false, leb-true, leb-false}
-use Rattle.pictures.specs.Picture.{scaled, shade, shades, least, greatest, NeverDarker}
+use Rattle.pictures.specs.Picture.{scaled, shade, least, greatest, NeverDarker}
 
-pub folded_none : (f : ℤ → ℤ → ℤ) (zs : List ℤ) → length zs ≡ 0 → pos 0 ≡ fold f (get_or zs 0 (pos 0)) zs
-folded_none f [] e = refl
-folded_none f (z ∷ zs) e = absurd (omega arith)
+filled : (zs : List ℤ) (r : ℤ) → Contains zs r → 0 < length zs
+filled zs r (k, l, e) = omega arith
+
+one_of : (zs : List ℤ) (first r : ℤ) (P : ℤ → Type 0) → Contains zs first → (r ≡ first) ⊎ Contains zs r → All P zs → P r
+one_of zs first r P c (inl e) a = subst P (sym e) (All-contains P zs first a c)
+one_of zs first r P c (inr h) a = All-contains P zs r a h
+
+-- r is one of the numbers, and none is less, or there are none
+pub least_is : (zs : List ℤ) (o : Option ℤ) → (IsNone o ↔ (zs ≡ [])) → IfSome o (Contains zs) → IfSome o (λ r. All (λ z. r ≤ℤ z) zs) → unwrap_or o (pos 0) ≡ least zs
+least_is zs None n c a = sym (ap least (n.0 refl))
+least_is zs (Some r) n c a =
+    let low = least zs in
+    let first : Contains zs (get_or zs 0 (pos 0)) = Contains-get_or zs 0 (pos 0) (filled zs r c) in
+    let bounds = fold-int_min_bounds (get_or zs 0 (pos 0)) zs low refl in
+    let under : r ≤ℤ low = one_of zs (get_or zs 0 (pos 0)) low (λ z. r ≤ℤ z) first (fold-int_min_reached (get_or zs 0 (pos 0)) zs low refl) a in
+    let over : low ≤ℤ r = All-contains (λ z. low ≤ℤ z) zs r bounds.1 c in
+    omega (arith, ints)
+
+-- the same of the greatest
+pub greatest_is : (zs : List ℤ) (o : Option ℤ) → (IsNone o ↔ (zs ≡ [])) → IfSome o (Contains zs) → IfSome o (λ r. All (λ z. z ≤ℤ r) zs) → unwrap_or o (pos 0) ≡ greatest zs
+greatest_is zs None n c a = sym (ap greatest (n.0 refl))
+greatest_is zs (Some r) n c a =
+    let high = greatest zs in
+    let first : Contains zs (get_or zs 0 (pos 0)) = Contains-get_or zs 0 (pos 0) (filled zs r c) in
+    let bounds = fold-int_max_bounds (get_or zs 0 (pos 0)) zs high refl in
+    let over : high ≤ℤ r = one_of zs (get_or zs 0 (pos 0)) high (λ z. z ≤ℤ r) first (fold-int_max_reached (get_or zs 0 (pos 0)) zs high refl) a in
+    let under : r ≤ℤ high = All-contains (λ z. z ≤ℤ high) zs r bounds.1 c in
+    omega (arith, ints)
 
 div_mono : (a b k : ℕ) → 0 < k → a ≤ b → a / k ≤ b / k
 div_mono a b k h l = le-div (a / k) b k h (omega (arith, div-mul-le_self a k))
@@ -60,16 +87,3 @@ never_darker zs i j l m h =
 pub shade_is : (low high z : ℤ) (p s r : ℕ) → p ≡ nat_abs (z -ℤ low) → s ≡ nat_abs (high -ℤ low) → r ≡ scaled p s → r ≡ shade low high z
 unfolding shade
 shade_is low high z p s r a b e = e ∙ ap (λ (x : ℕ). scaled x s) a ∙ ap (scaled (nat_abs (z -ℤ low))) b
-
--- one more of a list that a function makes of another
-pub mapped_more : {X Y : Type 0} (f : X → Y) (xs : List X) (i : ℕ) (d : X) (y : Y) (all after : List Y) → i < length xs → y ≡ f (get_or xs i d) → after ≡ all ++ (y ∷ []) → all ≡ map f (take i xs) → after ≡ map f (take (i + 1) xs)
-mapped_more f xs i d y all after l e q h = q ∙ ap (λ zs. zs ++ (y ∷ [])) h ∙ ap (λ z. map f (take i xs) ++ (z ∷ [])) e ∙ sym (map_more f xs i d l)
-
-pub mapped_all : {X Y : Type 0} (f : X → Y) (xs : List X) (i : ℕ) (all : List Y) → length xs ≤ i → all ≡ map f (take i xs) → all ≡ map f xs
-mapped_all f xs i all l h = h ∙ ap (map f) (take_all i xs l)
-
-pub shade_same : (a b c d y z : ℤ) → a ≡ b → c ≡ d → y ≡ z → shade a c y ≡ shade b d z
-shade_same a b c d y z p q r = ap (λ (x : ℤ). shade x c y) p ∙ ap (λ (x : ℤ). shade b x y) q ∙ ap (shade b d) r
-
-pub shades_same : (a b c d : ℤ) (zs : List ℤ) → a ≡ b → c ≡ d → shades a c zs ≡ shades b d zs
-shades_same a b c d zs p q = ap (λ (x : ℤ). shades x c zs) p ∙ ap (λ (x : ℤ). shades b x zs) q

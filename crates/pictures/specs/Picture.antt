@@ -1,11 +1,11 @@
 -- Plain pictures of grey. Assumes nothing: these are definitions.
-use Rattle.std.specs.Prelude.{ℕ, ◌*◌, ◌/◌, ◌<◌, ◌≤◌, cond, List, ◌++◌, map, length, ℤ, pos, ◌-ℤ◌, ◌≤ℤ◌, codes, decimal, fold, ◌==◌, nat_le, slice_index_or, unsigned_abs}
+use Rattle.std.specs.Prelude.{ℕ, ◌*◌, ◌/◌, ◌<◌, ◌≤◌, if◌then◌else◌, List, ◌++◌, map, length, ℤ, pos, ◌-ℤ◌, ◌≤ℤ◌, codes, decimal, fold, ◌==◌, nat_le, slice_index_or, unsigned_abs}
 use Rattle.std.specs.Int.{int_min, int_max}
 use Rattle.printing.specs.Rows.{rows_text}
 
 -- so much of a span, of 255
 abbrev pub scaled : ℕ → ℕ → ℕ
-scaled part span = cond (span == 0) 0 (cond (nat_le span part) 255 (part * 255 / span))
+scaled part span = if span == 0 then 0 else (if nat_le span part then 255 else part * 255 / span)
 
 -- black for the least, white for the greatest
 unfoldable pub shade : ℤ → ℤ → ℤ → ℕ

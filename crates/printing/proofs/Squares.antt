@@ -1,5 +1,6 @@
 -- Signs of squares as they are printed. Assumes nothing.
 use Rattle.std.proofs.Common.{◌≡◌, ℕ, zero, suc, pred, ◌+◌, ◌-◌, ◌*◌, ◌/◌, ◌%◌, ◌<◌, ◌≤◌, List, [], ◌∷◌, ◌++◌, ℤ, pos, negsuc, ◌*ℤ◌, sym, refl, ap, ◌∙◌, append_assoc, append-nil, add-one, arith}
+use lib.Utf8.{encode}
 use Rattle.std.proofs.lemmas.Nat.{div-mul-add, mod-mul-add}
 use Rattle.std.proofs.lemmas.Int.{ints}
 use Rattle.grid.specs.Field.{Field, round}
@@ -14,6 +15,13 @@ sign_is o zero z l e = absurd (omega arith)
 sign_is Less (suc t) z l e = let q : z ≡ negsuc t = omega (arith, ints) in sym (ap sign q)
 sign_is Back (suc t) z l e = let q : z ≡ pos 0 = omega (arith, ints) in sym (ap sign q)
 sign_is More (suc t) z l e = let q : z ≡ pos (suc t) = omega (arith, ints) in sym (ap sign q)
+
+-- a sign is one byte
+pub encode-sign : (z : ℤ) → encode (sign z) ≡ sign z ∷ []
+unfolding encode
+encode-sign (pos zero) = refl
+encode-sign (pos (suc n)) = refl
+encode-sign (negsuc n) = refl
 
 pub has_square : (f : Field) (x y p : ℕ) → suc x < f.wide → suc y < f.high → p ≡ y * f.wide + x → HasSquare f p
 has_square f x y p l m e =

@@ -1,9 +1,9 @@
 -- Rows that are read back. The statements are types whose proofs are owed.
-use Rattle.std.specs.Prelude.{◌≡◌, ℕ, ◌^◌, ◌<◌, ◌≤◌, cond, List, [], ◌∷◌, map, ℤ, pos, neg_ℤ, Some, None, Option, ◌==◌}
+use Rattle.std.specs.Prelude.{◌≡◌, ℕ, ◌^◌, ◌<◌, ◌≤◌, if◌then◌else◌, List, [], ◌∷◌, map, ℤ, pos, neg_ℤ, Some, None, Option, ◌==◌}
 use Rattle.std.specs.Int.Signed.{mag}
 use Rattle.std.specs.Option.{option_map}
 use Rattle.std.specs.List.{AllByRecursion}
-use Rattle.text.specs.Numeral.{numeral, then}
+use Rattle.text.specs.Numeral.{numeral, and_then}
 use Rattle.text.specs.Pieces.{words}
 use Rattle.text.specs.Row.{row_onto}
 use Rattle.printing.specs.Rows.{row_text}
@@ -11,7 +11,8 @@ use Rattle.printing.specs.Rows.{row_text}
 -- a number with a minus sign, which is 45, or without
 abbrev pub signed_numeral : List ℕ → Option ℤ
 signed_numeral [] = None
-signed_numeral (b ∷ bs) = cond (b == 45) (option_map (λ n. neg_ℤ (pos n)) (numeral bs)) (option_map pos (numeral (b ∷ bs)))
+signed_numeral (b ∷ bs) =
+    if b == 45 then option_map (λ n. neg_ℤ (pos n)) (numeral bs) else option_map pos (numeral (b ∷ bs))
 
 abbrev pub onto_row : ℤ → Option (List ℤ) → Option (List ℤ)
 onto_row z None = None
@@ -19,7 +20,7 @@ onto_row z (Some zs) = Some (z ∷ zs)
 
 unfoldable pub signed_row : List (List ℕ) → Option (List ℤ)
 signed_row [] = Some []
-signed_row (w ∷ ws) = then (signed_numeral w) (λ z. onto_row z (signed_row ws))
+signed_row (w ∷ ws) = and_then (signed_numeral w) (λ z. onto_row z (signed_row ws))
 
 -- a printed row of numbers of 64 bits says these numbers
 abbrev pub RowsReadBack : Type 0

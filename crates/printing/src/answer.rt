@@ -3,25 +3,30 @@ ghost use Rattle.std.specs.Prelude.{◌≡◌, IfOk, string_bytes};
 ghost use Rattle.grid.specs.Model.{field_of};
 ghost use Rattle.printing.specs.Answer.{answer_text};
 
-use crate::rows::{cost_line, push_rows};
+use crate::rows::{push_cost, push_rows};
 use crate::signs::push_signs;
 use grid::field::Field;
 use std::alloc::{AllocError, Global};
 
+// A field with its heights, what their turns cost, and whether the signs of its squares are asked for.
+#[derive(Clone, Copy)]
+pub struct Report<'a> {
+    pub field: &'a Field,
+    pub heights: &'a [i64],
+    pub cost: u64,
+    pub squares: bool,
+}
+
 // The heights row by row, the cost, and the signs where the squares are asked for.
-pub fn answer(
-    heap: Global,
-    field: &Field,
-    heights: &[i64],
-    cost: u64,
-    squares: bool,
-) -> Result<String, AllocError>
-    ensures { IfOk result (λ s. string_bytes s ≡ answer_text (field_of field.now) heights.now cost squares) }
+pub fn answer(heap: Global, report: &Report<'_>) -> Result<String, AllocError>
+    ensures { IfOk result (λ s.
+        string_bytes s ≡ answer_text (field_of report.now.field.now) report.now.heights.now report.now.cost report.now.squares) }
 {
+    let field = report.field;
     let mut out = String::new(heap);
-    push_rows(heap, &mut out, field.wide(), field.high(), heights)?;
-    out.push_str(cost_line(heap, cost)?.as_str())?;
-    if squares {
+    push_rows(&mut out, field.wide(), field.high(), report.heights)?;
+    push_cost(&mut out, report.cost)?;
+    if report.squares {
         push_signs(&mut out, field)?;
     }
     Ok(out)

@@ -9,20 +9,14 @@ use std::alloc::{AllocError, Global};
 fn clamped(z: i128) -> i64
     ensures { result ≡ saturate_to_bits 63 z }
 {
-    if z > 9223372036854775807 {
-        9223372036854775807
-    } else if z < -9223372036854775808 {
-        -9223372036854775808
-    } else {
-        z as i64
-    }
+    z.clamp(i128::from(i64::MIN), i128::from(i64::MAX)) as i64
 }
 
 // What was seen and so many turns.
 pub fn height(turn: u32, seen: u32, turns: i64) -> i64
     ensures { result ≡ saturate_to_bits 63 (pos seen +ℤ (turns *ℤ pos turn)) }
 {
-    clamped(seen as i128 + turns as i128 * turn as i128)
+    clamped(i128::from(seen) + i128::from(turns) * i128::from(turn))
 }
 
 // The heights of all places.
@@ -35,10 +29,8 @@ pub fn heights_of(
     ensures { IfOk result (λ v. v.items ≡ heights_of turn seen.now turns.now) }
 {
     let mut heights = Vec::new(heap);
-    let mut i = 0;
-    while i < seen.len() && i < turns.len() {
-        heights.push(height(turn, seen[i], turns[i]))?;
-        i += 1;
+    for (s, k) in seen.iter().zip(turns) {
+        heights.push(height(turn, *s, *k))?;
     }
     Ok(heights)
 }

@@ -1,11 +1,11 @@
 // The line that says why something was turned away.
 ghost use Rattle.std.specs.Prelude.{◌≡◌, IfOk, string_bytes};
-ghost use Rattle.printing.specs.Refused.{reason_text, line_text, refusal_text};
+ghost use Rattle.printing.specs.Refused.{reason_text, refusal_text};
 
 use grid::refusal::{Dimension, Refusal};
 use std::alloc::{AllocError, Global};
 
-// Why, in a few words.
+// Why, in a few words. No Display of grid's Refusal: it would want the definitions of the words in grid, and this function again.
 pub fn reason(refusal: Refusal) -> &'static str
     ensures { result.now ≡ reason_text refusal }
 {
@@ -20,16 +20,12 @@ pub fn reason(refusal: Refusal) -> &'static str
     }
 }
 
-// The line with a number, a place and words.
-fn line_of(heap: Global, number: u64, place: u64, words: &str) -> Result<String, AllocError>
-    ensures { IfOk result (λ s. string_bytes s ≡ line_text number place words.now) }
-{
-    format!(in heap; "refused {number} at {place}: {words}")
-}
-
 // The line with the number, the place and the reason.
 pub fn refusal_line(heap: Global, refusal: Refusal) -> Result<String, AllocError>
     ensures { IfOk result (λ s. string_bytes s ≡ refusal_text refusal) }
 {
-    line_of(heap, refusal.number(), refusal.place(), reason(refusal))
+    let number = refusal.number();
+    let place = refusal.place();
+    let why = reason(refusal);
+    format!(in heap; "refused {number} at {place}: {why}")
 }

@@ -1,5 +1,5 @@
 // Signs of squares.
-ghost use Rattle.std.specs.Prelude.{◌≡◌, suc, pred, ◌+◌, ◌-◌, ◌<◌, [], ◌∷◌, ◌++◌, string_bytes, OnOk};
+ghost use Rattle.std.specs.Prelude.{◌≡◌, suc, pred, ◌+◌, ◌-◌, ◌<◌, ◌++◌, string_bytes, OnOk};
 ghost use Rattle.grid.specs.Field.{round};
 ghost use Rattle.grid.specs.Model.{field_of};
 ghost use Rattle.printing.specs.Signs.{sign_of, sign, sign_row, signs_text};
@@ -9,20 +9,22 @@ use grid::square::Off;
 use std::alloc::AllocError;
 
 // The sign of a square: `+` where right and down is a turn more than down and right, `-` where it is a turn less.
-fn sign_of(off: Off) -> &'static str
-    ensures { result.now ≡ sign_of off ∷ [] }
+// No Display of grid's Off: it would want the definition of the signs in grid too, and be no shorter.
+fn sign_of(off: Off) -> char
+    ensures { result ≡ sign_of off }
 {
     match off {
-        Off::Less => "-",
-        Off::Back => ".",
-        Off::More => "+",
+        Off::Less => '-',
+        Off::Back => '.',
+        Off::More => '+',
     }
 }
 
 // The sign of the square to the right of a place and below it.
-fn sign_at(field: &Field, x: usize, y: usize) -> &'static str
-    requires { (suc x < field.now.wide) × (suc y < field.now.high) }
-    ensures { result.now ≡ sign (round (field_of field.now) x y) ∷ [] }
+fn sign_at(field: &Field, x: usize, y: usize) -> char
+    requires wide { suc x < field.now.wide }
+    requires high { suc y < field.now.high }
+    ensures { result ≡ sign (round (field_of field.now) x y) }
 {
     match field.square(y * field.wide() + x) {
         Some(off) => sign_of(off),
@@ -33,10 +35,11 @@ fn sign_at(field: &Field, x: usize, y: usize) -> &'static str
 // Adds the signs of a row of squares.
 fn push_sign_row(out: &mut String, field: &Field, y: usize) -> Result<(), AllocError>
     requires { suc y < field.now.high }
-    ensures { OnOk result (string_bytes out.new ≡ string_bytes out.old ++ sign_row (field_of field.now) y 0 (pred field.now.wide)) }
+    ensures { OnOk result
+        (string_bytes out.new ≡ string_bytes out.old ++ sign_row (field_of field.now) y 0 (pred field.now.wide)) }
 {
     for x in 0..field.wide() - 1 {
-        out.push_str(sign_at(field, x, y))?;
+        out.push(sign_at(field, x, y))?;
     }
     Ok(())
 }
@@ -47,7 +50,7 @@ pub fn push_signs(out: &mut String, field: &Field) -> Result<(), AllocError>
 {
     for y in 0..field.high() - 1 {
         push_sign_row(out, field, y)?;
-        out.push_str("\n")?;
+        writeln!(out)?;
     }
     Ok(())
 }

@@ -8,8 +8,8 @@ use Rattle.network.specs.Graph.{gains}
 use Rattle.network.specs.Sound.{supply, left}
 use Rattle.flow.specs.Answer.{Outcome}
 use Rattle.flow.specs.Start.{started}
-use Rattle.flow.specs.declared.Answer.{Answer}
-use Rattle.flow.specs.declared.Answer.TheVariants.{Settled, Stuck}
+use Rattle.std.specs.Prelude.{Result, Ok, Err}
+use Rattle.flow.specs.declared.stuck.Stuck.{Stuck}
 use Rattle.squares.specs.Squares.{places, supply_of}
 use Rattle.squares.specs.Promise.{MakesLeast, SolvedIsLeast}
 use Rattle.squares.proofs.Least.{settled_is_least}
@@ -40,11 +40,11 @@ solved_is_least f g arc e s place r fit b w nodes given flows priced supplies mo
     room : (a : ℕ) → a < g.arcs → nat_abs (s.flow a) < 2 ^ 60
     room a l = omega (arith, small a l, w.few_nodes)
 
-    by : (r : Answer) → Outcome g s place r → MakesLeast f arc s.flow r
-    by Settled none =
+    by : (r : Result (Unit {0}) Stuck) → Outcome g s place r → MakesLeast f arc s.flow r
+    by (Ok tt) none =
         record {
           settled = refl;
           small = turns_small f arc s.flow g (places f) b small;
           least = λ t agree. settled_is_least f g arc s t b w flows priced room (λ v l. omega (arith, ints, none v (omega arith), meets v l)) agree;
         }
-    by (Stuck k) full = absurd (never_stuck f g arc s place k b w flows nodes meets room full)
+    by (Err stuck) full = absurd (never_stuck f g arc s place stuck.nodes b w flows nodes meets room full)

@@ -1,5 +1,5 @@
 -- What is promised of the network of a field's squares. The statements are types whose proofs are owed.
-use Rattle.std.specs.Prelude.{◌≡◌, ℕ, suc, ◌+◌, ◌*◌, ◌^◌, ◌<◌, ◌≤◌, ℤ, pos, ◌+ℤ◌, ◌-ℤ◌, ◌≤ℤ◌, unsigned_abs}
+use Rattle.std.specs.Prelude.{◌≡◌, ℕ, suc, ◌+◌, ◌*◌, ◌^◌, ◌<◌, ◌≤◌, ℤ, pos, ◌+ℤ◌, ◌-ℤ◌, ◌≤ℤ◌, unsigned_abs, Result, Ok}
 use borrow.Author.Differences.{up}
 use Rattle.sums.specs.Sum.{sum_to, sum_ℤ}
 use Rattle.grid.specs.Field.{Field, Turns}
@@ -9,8 +9,7 @@ use Rattle.network.specs.Graph.{Graph, Laws, IsFlow, Priced, gains, outflow}
 use Rattle.network.specs.Sound.{State, supply, left}
 use Rattle.flow.specs.Answer.{Outcome, Overfull}
 use Rattle.flow.specs.Start.{started}
-use Rattle.flow.specs.declared.Answer.{Answer}
-use Rattle.flow.specs.declared.Answer.TheVariants.{Settled}
+use Rattle.flow.specs.declared.stuck.Stuck.{Stuck}
 use Rattle.edges.specs.Edges.{Lawful, Built}
 use Rattle.squares.specs.Squares.{node, places, squares_edges, supply_of, across_right, across_below, turns_from}
 
@@ -70,15 +69,15 @@ StartsEmpty =
     (sum_ℤ g.arcs (gains g) ≡ pos 0) × (Laws g → (a : ℕ) → a < g.arcs → started g a ≡ pos 0)
 
 -- the flow has settled, the turns that it makes are few, and turns that are the same at all places cost least
-pub record MakesLeast (f : Field) (arc : ℕ → ℕ) (flow : ℕ → ℤ) (r : Answer) : Type 0 where
-  pub settled : r ≡ Settled
+pub record MakesLeast (f : Field) (arc : ℕ → ℕ) (flow : ℕ → ℤ) (r : Result (Unit {0}) Stuck) : Type 0 where
+  pub settled : r ≡ Ok tt
   pub small : (x y : ℕ) → x < f.wide → y < f.high → unsigned_abs (turns_from f arc flow x y) ≤ (x + y) * suc (places f)
   pub least : (t : Turns) → ((x y : ℕ) → x < f.wide → y < f.high → t x y ≡ turns_from f arc flow x y) → Least f t
 
 -- so does what a solver leaves that started from these supplies, where no flow has left the first by more than all supplies and gains
 abbrev pub SolvedIsLeast : Type 0
 SolvedIsLeast =
-    (f : Field) (g : Graph) (arc : ℕ → ℕ) (e : ℕ → ℤ) (s : State) (place : ℕ → ℕ) (r : Answer) → Fit f → Built (squares_edges f) g arc → Laws g → g.nodes ≡ places f →
+    (f : Field) (g : Graph) (arc : ℕ → ℕ) (e : ℕ → ℤ) (s : State) (place : ℕ → ℕ) (r : Result (Unit {0}) Stuck) → Fit f → Built (squares_edges f) g arc → Laws g → g.nodes ≡ places f →
     ((v : ℕ) → v < g.nodes → e v ≡ supply_of f v) →
     IsFlow g s.flow → Priced g s.flow s.potential →
     ((v : ℕ) → v < g.nodes → supply g s v ≡ e v) →

@@ -4,64 +4,46 @@
 ghost use Rattle.squares.specs.Promise.{NodesApart, FourEdges, EdgesLie, SuppliesEven, SuppliesFew, StartsEmpty, SettledIsLeast, NeverStuck, SolvedIsLeast};
 
 // Squares have different nodes.
-pub fn nodes_apart() -> u8
+pub fn nodes_apart()
     ensures { NodesApart }
-{
-    0
-}
+{}
 
 // Four edges meet at a square.
-pub fn four_edges() -> u8
+pub fn four_edges()
     ensures { FourEdges }
-{
-    0
-}
+{}
 
 // Each edge is between nodes, and costs and takes what an arc may.
-pub fn edges_lie() -> u8
+pub fn edges_lie()
     ensures { EdgesLie }
-{
-    0
-}
+{}
 
 // What the nodes supply adds up to nothing.
-pub fn supplies_even() -> u8
+pub fn supplies_even()
     ensures { SuppliesEven }
-{
-    0
-}
+{}
 
 // There are no more units than places.
-pub fn supplies_few() -> u8
+pub fn supplies_few()
     ensures { SuppliesFew }
-{
-    0
-}
+{}
 
 // No arc gains anything, so the first flow is none.
-pub fn starts_empty() -> u8
+pub fn starts_empty()
     ensures { StartsEmpty }
-{
-    0
-}
+{}
 
 // A settled flow makes turns that cost least.
-pub fn settled_is_least() -> u8
+pub fn settled_is_least()
     ensures { SettledIsLeast }
-{
-    0
-}
+{}
 
 // No set of nodes has more than can leave it.
-pub fn never_stuck() -> u8
+pub fn never_stuck()
     ensures { NeverStuck }
-{
-    0
-}
+{}
 
 // The solver settles, and the turns of its flow cost least.
-pub fn solved_is_least() -> u8
+pub fn solved_is_least()
     ensures { SolvedIsLeast }
-{
-    0
-}
+{}

@@ -1,5 +1,5 @@
 -- The first piece of a text. Assumes nothing.
-use Rattle.std.proofs.Common.{◌≡◌, ℕ, zero, suc, ◌<◌, ◌≤◌, true, false, List, [], ◌∷◌, length, get_or, take, drop, sym, refl, ap, ◌∙◌, arith}
+use Rattle.std.proofs.Common.{◌≡◌, ℕ, zero, suc, ◌<◌, ◌≤◌, Bool, true, false, if◌then◌else◌, List, [], ◌∷◌, length, get_or, take, drop, sym, refl, ap, ◌∙◌, arith}
 use Rattle.text.specs.declared.pieces.Mark.{Mark}
 use Rattle.text.specs.Pieces.{parts, onto, pieces, filled, words}
 
@@ -19,3 +19,17 @@ pieces_none m (b ∷ bs) e = absurd (omega arith)
 
 pub words_none : (bs ls : List ℕ) → length bs ≡ 0 → words bs ≡ words ls → words ls ≡ []
 words_none bs ls e h = sym h ∙ ap filled (pieces_none _ bs e)
+
+length_onto : (x : ℕ) (ps : List (List ℕ)) (n : ℕ) → length ps ≤ n → length (onto x ps) ≤ suc n
+length_onto x [] n l = omega arith
+length_onto x (p ∷ ps) n l = omega arith
+
+-- a text has no more pieces than bytes
+pub length_pieces : (m : Mark) (bs : List ℕ) → length (pieces m bs) ≤ length bs
+unfolding pieces
+length_pieces m [] = omega arith
+length_pieces m (b ∷ bs) = by (parts m b) (length_pieces m bs)
+  where
+    by : (t : Bool) → length (pieces m bs) ≤ length bs → length (if t then ([] ∷ pieces m bs) else onto b (pieces m bs)) ≤ suc (length bs)
+    by true l = omega arith
+    by false l = length_onto b (pieces m bs) (length bs) l

@@ -1,5 +1,4 @@
 pub mod Cuts
-pub mod Parts
 pub mod Reader
 pub mod Readings
 pub mod Rows

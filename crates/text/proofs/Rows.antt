@@ -1,8 +1,8 @@
 -- Rows of numbers, word by word. Assumes nothing.
-use Rattle.std.proofs.Common.{◌≡◌, ℕ, true, false, List, [], ◌∷◌, ◌++◌, Some, None, Option, sym, refl, ap, ◌∙◌, subst, arith}
+use Rattle.std.proofs.Common.{◌≡◌, ℕ, List, [], ◌∷◌, ◌++◌, Some, None, Option, sym, refl, ap, ◌∙◌, arith}
 use Rattle.std.specs.Option.{option_map}
-use Rattle.text.specs.Numeral.{numeral, capped, then}
-use Rattle.text.specs.Row.{row_onto, Pushed}
+use Rattle.text.specs.Numeral.{numeral, capped, and_then}
+use Rattle.text.specs.Row.{row_onto}
 
 abbrev large : ℕ
 large = 18446744073709551615
@@ -22,24 +22,21 @@ onto_nil : (ns : List ℕ) → row_onto ns [] ≡ Some ns
 unfolding row_onto
 onto_nil ns = refl
 
-onto_word : (ns : List ℕ) (w : List ℕ) (ws : List (List ℕ)) → row_onto ns (w ∷ ws) ≡ then (numeral w) (λ n. row_onto (ns ++ (capped 4294967295 n ∷ [])) ws)
+onto_word : (ns : List ℕ) (w : List ℕ) (ws : List (List ℕ)) → row_onto ns (w ∷ ws) ≡ and_then (numeral w) (λ n. row_onto (ns ++ (capped 4294967295 n ∷ [])) ws)
 unfolding row_onto
 onto_word ns w ws = refl
 
-pub row_ends : (ns : List ℕ) (ws : List (List ℕ)) (o : Option (List ℕ)) → ws ≡ [] → row_onto ns ws ≡ o → Pushed o ns true
-row_ends ns ws o e h =
-    let p : Some ns ≡ o = sym (onto_nil ns) ∙ ap (row_onto ns) (sym e) ∙ h in
-    subst (λ (x : Option (List ℕ)). Pushed x ns true) p (refl, refl)
+pub row_ends : (ns : List ℕ) (ws : List (List ℕ)) (o : Option (List ℕ)) → ws ≡ [] → row_onto ns ws ≡ o → o ≡ Some ns
+row_ends ns ws o e h = sym h ∙ ap (row_onto ns) e ∙ onto_nil ns
 
-pub row_stops : (ns after : List ℕ) (ws vs : List (List ℕ)) (w : List ℕ) (o : Option (List ℕ)) → ws ≡ w ∷ vs → None ≡ cap (numeral w) → row_onto ns ws ≡ o → Pushed o after false
-row_stops ns after ws vs w o e q h =
-    let p : None ≡ o =
-    sym (ap (λ (x : Option ℕ). then x (λ n. row_onto (ns ++ (capped 4294967295 n ∷ [])) vs)) (cap_none (numeral w) q)) ∙ sym (onto_word ns w vs) ∙ ap (row_onto ns) (sym e) ∙ h in
-    subst (λ (x : Option (List ℕ)). Pushed x after false) p refl
+pub row_stops : (ns : List ℕ) (ws vs : List (List ℕ)) (w : List ℕ) (o : Option (List ℕ)) → ws ≡ w ∷ vs → None ≡ cap (numeral w) → row_onto ns ws ≡ o → o ≡ None
+row_stops ns ws vs w o e q h =
+    sym h ∙ ap (row_onto ns) e ∙ onto_word ns w vs
+    ∙ ap (λ (x : Option ℕ). and_then x (λ n. row_onto (ns ++ (capped 4294967295 n ∷ [])) vs)) (cap_none (numeral w) q)
 
 pub row_more : (ns ms : List ℕ) (ws vs : List (List ℕ)) (w : List ℕ) (n : ℕ) → ws ≡ w ∷ vs → Some n ≡ cap (numeral w) → ms ≡ ns ++ (capped 4294967295 n ∷ []) → row_onto ms vs ≡ row_onto ns ws
 row_more ns ms ws vs w n e q t =
     let k = cap_some (numeral w) n q in
     let small : capped 4294967295 n ≡ capped 4294967295 k.0 = omega (arith, k.2) in
     ap (λ (x : List ℕ). row_onto x vs) (t ∙ ap (λ (x : ℕ). ns ++ (x ∷ [])) small)
-    ∙ sym (ap (λ (x : Option ℕ). then x (λ n. row_onto (ns ++ (capped 4294967295 n ∷ [])) vs)) k.1) ∙ sym (onto_word ns w vs) ∙ ap (row_onto ns) (sym e)
+    ∙ sym (ap (λ (x : Option ℕ). and_then x (λ n. row_onto (ns ++ (capped 4294967295 n ∷ [])) vs)) k.1) ∙ sym (onto_word ns w vs) ∙ ap (row_onto ns) (sym e)

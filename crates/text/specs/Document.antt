@@ -1,11 +1,14 @@
 -- Documents: a field and its prices as a text says them. Assumes nothing: these are definitions.
-use Rattle.std.specs.Prelude.{◌≡◌, ℕ, suc, ◌+◌, ◌*◌, ◌/◌, Bool, cond, List, [], ◌∷◌, length, take, drop, replicate, Some, None, Ok, Err, vec_items, Option, Result, ◌==◌}
+use Rattle.std.specs.Prelude.{◌≡◌, ℕ, suc, ◌+◌, ◌*◌, ◌/◌, Bool, if◌then◌else◌, List, [], ◌∷◌, length, take, drop, replicate, Some, None, Ok, Err, vec_items, Option, Result, ◌==◌}
 use Rattle.std.specs.Option.{unwrap_or}
 use Rattle.grid.specs.declared.refusal.Refusal.{Refusal}
 use Rattle.grid.specs.declared.refusal.Refusal.TheVariants.{Text}
 use Rattle.text.specs.declared.document.Document.{Document}
 use Rattle.text.specs.declared.document.Unread.{Unread}
 use Rattle.text.specs.declared.document.Unread.TheVariants.{Refused, Memory}
+use Rattle.text.specs.declared.fault.Fault.{Fault}
+use Rattle.text.specs.declared.fault.Fault.TheVariants.{Unreadable}
+use Rattle.text.specs.declared.fault.Fault.TheVariants as fault
 use Rattle.text.specs.Draft.{Notes, blank, step}
 use Rattle.text.specs.Pieces.{lines}
 
@@ -31,7 +34,7 @@ contents d = record {
 
 -- how many rows so many numbers are
 abbrev pub rows_in : ℕ → ℕ → ℕ
-rows_in n w = cond (w == 0) 0 (n / w)
+rows_in n w = if w == 0 then 0 else n / w
 
 -- one price everywhere
 abbrev pub priced : Notes → ℕ → Contents
@@ -84,3 +87,8 @@ abbrev pub Reads : Result Contents Refusal → Result Document Unread → Type 0
 Reads o (Ok d) = o ≡ Ok (contents d)
 Reads o (Err (Refused f)) = o ≡ Err f
 Reads o (Err Memory) = Unit {0}
+
+-- a line at which reading stops
+abbrev pub stopped_at : Fault → ℕ → Unread
+stopped_at Unreadable n = Refused (Text n)
+stopped_at fault.Memory n = Memory

@@ -1,10 +1,12 @@
 -- What has been read of a document, line by line. Assumes nothing: these are definitions.
-use Rattle.std.specs.Prelude.{ℕ, ◌-◌, Bool, true, false, cond, ◌||◌, List, [], length, Some, None, vec_items, Option, ◌==◌}
+use Rattle.std.specs.Prelude.{◌≡◌, ℕ, ◌-◌, Bool, true, false, if◌then◌else◌, ◌||◌, List, [], length, Some, None, Ok, Err, vec_items, Option, Result, ◌==◌}
 use Rattle.text.specs.declared.draft.Draft.{Draft}
+use Rattle.text.specs.declared.fault.Fault.{Fault}
+use Rattle.text.specs.declared.fault.Fault.TheVariants.{Unreadable, Memory}
 use Rattle.text.specs.declared.kind.Kind.{Kind}
 use Rattle.text.specs.declared.kind.Kind.TheVariants.{Nothing, Turn, Price, Squares, Row}
 use Rattle.text.specs.Kind.{kind_of}
-use Rattle.text.specs.Numeral.{capped, then}
+use Rattle.text.specs.Numeral.{capped, largest_entry, and_then}
 use Rattle.text.specs.Pieces.{words}
 use Rattle.text.specs.Row.{row_onto}
 
@@ -29,22 +31,20 @@ unless None b = Some b
 unless (Some a) b = None
 
 abbrev pub with_turn : Notes → ℕ → Option Notes
-with_turn d n = unless d.turn (record { turn = Some n; price = d.price; squares = d.squares; wide = d.wide; numbers = d.numbers })
+with_turn d n = unless d.turn (record d { turn = Some n })
 
 abbrev pub with_price : Notes → ℕ → Option Notes
-with_price d n =
-    unless d.price (record { turn = d.turn; price = Some (capped 4294967295 n); squares = d.squares; wide = d.wide; numbers = d.numbers })
+with_price d n = unless d.price (record d { price = Some (capped largest_entry n) })
 
 abbrev pub with_squares : Notes → Notes
-with_squares d = record { turn = d.turn; price = d.price; squares = true; wide = d.wide; numbers = d.numbers }
+with_squares d = record d { squares = true }
 
 -- the first row says how wide rows are
 abbrev pub as_wide : Notes → ℕ → List ℕ → Option Notes
-as_wide d w all =
-    cond (d.wide == 0 || w == d.wide) (Some (record { turn = d.turn; price = d.price; squares = d.squares; wide = w; numbers = all })) None
+as_wide d w all = if d.wide == 0 || w == d.wide then Some (record d { wide = w; numbers = all }) else None
 
 abbrev pub with_row : Notes → List (List ℕ) → Option Notes
-with_row d ws = then (row_onto d.numbers ws) (λ all. as_wide d (length all - length d.numbers) all)
+with_row d ws = and_then (row_onto d.numbers ws) (λ all. as_wide d (length all - length d.numbers) all)
 
 abbrev pub step_by : Notes → List (List ℕ) → Kind → Option Notes
 step_by d ws Nothing = Some d
@@ -55,4 +55,10 @@ step_by d ws Row = with_row d ws
 
 -- one line more; None where it can't be read
 abbrev pub step : Notes → List ℕ → Option Notes
-step d line = then (kind_of (words line)) (step_by d (words line))
+step d line = and_then (kind_of (words line)) (step_by d (words line))
+
+-- the draft is what is there, or it can't be read and nothing is there, unless there is no memory for it
+abbrev pub Drafted : Option Notes → Result Draft Fault → Type 0
+Drafted o (Ok d) = o ≡ Some (notes d)
+Drafted o (Err Unreadable) = o ≡ None
+Drafted o (Err Memory) = Unit {0}

@@ -1,18 +1,25 @@
 -- Numbers written in decimal digits. Assumes nothing: these are definitions.
-use Rattle.std.specs.Prelude.{ℕ, ◌+◌, ◌-◌, ◌*◌, min, cond, ◌&&◌, List, [], ◌∷◌, Some, None, Option, nat_le}
+use Rattle.std.specs.Prelude.{ℕ, ◌+◌, ◌-◌, ◌*◌, min, if◌then◌else◌, ◌&&◌, List, [], ◌∷◌, Some, None, Option, nat_le}
 
 abbrev pub digit : ℕ → Option ℕ
-digit b = cond (nat_le 48 b && nat_le b 57) (Some (b - 48)) None
+digit b = if nat_le 48 b && nat_le b 57 then Some (b - 48) else None
+
+-- `u64::MAX` and `u32::MAX`
+abbrev pub largest : ℕ
+largest = 18446744073709551615
+
+abbrev pub largest_entry : ℕ
+largest_entry = 4294967295
 
 -- what f makes of what is there
-abbrev pub then : {A B : Type 0} → Option A → (A → Option B) → Option B
-then None f = None
-then (Some a) f = f a
+abbrev pub and_then : {A B : Type 0} → Option A → (A → Option B) → Option B
+and_then None f = None
+and_then (Some a) f = f a
 
 -- the number that digits make after the number so far
 unfoldable pub numeral_on : ℕ → List ℕ → Option ℕ
 numeral_on n [] = Some n
-numeral_on n (b ∷ bs) = then (digit b) (λ d. numeral_on (n * 10 + d) bs)
+numeral_on n (b ∷ bs) = and_then (digit b) (λ d. numeral_on (n * 10 + d) bs)
 
 -- the number that a word of digits writes
 unfoldable pub numeral : List ℕ → Option ℕ

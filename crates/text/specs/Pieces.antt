@@ -1,5 +1,5 @@
 -- Lines and words: the pieces of a text between marks. Assumes nothing: these are definitions.
-use Rattle.std.specs.Prelude.{◌≡◌, ℕ, ◌<◌, Bool, cond, ◌||◌, List, [], ◌∷◌, length, Some, None, Option, ◌==◌}
+use Rattle.std.specs.Prelude.{◌≡◌, ℕ, ◌<◌, Bool, if◌then◌else◌, ◌||◌, List, [], ◌∷◌, length, Some, None, Option, ◌==◌}
 use Rattle.std.specs.Borrow.{Bor}
 use Rattle.text.specs.declared.pieces.Mark.{Mark}
 use Rattle.text.specs.declared.pieces.Mark.TheVariants.{Newline, Blank}
@@ -17,7 +17,7 @@ onto b (p ∷ ps) = (b ∷ p) ∷ ps
 -- a text is cut at each byte that parts; what ends with one has no piece after it
 unfoldable pub pieces : Mark → List ℕ → List (List ℕ)
 pieces m [] = []
-pieces m (b ∷ bs) = cond (parts m b) ([] ∷ pieces m bs) (onto b (pieces m bs))
+pieces m (b ∷ bs) = if parts m b then ([] ∷ pieces m bs) else onto b (pieces m bs)
 
 abbrev pub filled : List (List ℕ) → List (List ℕ)
 filled [] = []

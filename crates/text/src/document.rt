@@ -1,11 +1,13 @@
 // Documents: a field and its prices as a text says them.
-ghost use Rattle.std.specs.Prelude.{◌≡◌, ◌+◌, ◌/◌, length, take, drop, replicate, IfOk};
+ghost use Rattle.std.specs.Prelude.{◌≡◌, Some, None, IfOk};
 ghost use Rattle.text.specs.Draft.{notes};
-ghost use Rattle.text.specs.declared.document.Unread.TheVariants.{Memory};
-ghost use Rattle.text.specs.Document.{rows_in, contents, priced, thirds, finished, reading, Reads};
+ghost use Rattle.text.specs.Document.{rows_in, contents, by_price, finished, reading, Reads, stopped_at};
+ghost use Rattle.text.specs.declared.document.Unread.TheVariants as unread;
 
 use crate::draft::Draft;
-use crate::pieces::next_line;
+use crate::fault::Fault;
+use crate::pieces::Lines;
+use crate::row::parted;
 use grid::refusal::Refusal;
 use std::alloc::{AllocError, Global};
 
@@ -22,17 +24,37 @@ pub struct Document {
 }
 
 // Why there is no document: the text is turned away, or there is no memory for it.
-#[derive(Clone, Copy)]
+#[derive(Clone, Copy, PartialEq, Eq, Debug)]
 pub enum Unread {
     Refused(Refusal),
     Memory,
 }
 
 impl From<AllocError> for Unread {
-    ghost from_gives = { λ _ r. r ≡ Memory };
+    ghost from_gives = { λ _ r. r ≡ unread.Memory };
 
     fn from(_e: AllocError) -> Unread {
         Unread::Memory
+    }
+}
+
+impl From<Refusal> for Unread {
+    ghost from_gives = { λ refusal r. r ≡ unread.Refused refusal };
+
+    fn from(refusal: Refusal) -> Unread {
+        Unread::Refused(refusal)
+    }
+}
+
+impl Fault {
+    // Of a line.
+    fn at(self, line: u64) -> Unread
+        ensures { result ≡ stopped_at self line }
+    {
+        match self {
+            Fault::Unreadable => Unread::Refused(Refusal::Text(line)),
+            Fault::Memory => Unread::Memory,
+        }
     }
 }
 
@@ -40,90 +62,42 @@ impl From<AllocError> for Unread {
 fn rows_in(numbers: usize, wide: usize) -> usize
     ensures { result ≡ rows_in numbers wide }
 {
-    if wide == 0 { 0 } else { numbers / wide }
-}
-
-// A third, and one more where something is left over.
-fn third(rows: usize) -> usize
-    ensures { result ≡ (rows + 2) / 3 }
-{
-    if rows % 3 == 0 {
-        rows / 3
-    } else {
-        rows / 3 + 1
-    }
-}
-
-// The first n numbers, or all where there are fewer, and the rest.
-fn parted(list: &[u32], n: usize) -> (&[u32], &[u32])
-    ensures front { result.0.now ≡ take n list.now }
-    ensures back { result.1.now ≡ drop n list.now }
-{
-    if n > list.len() {
-        return list.split_at(list.len());
-    }
-    list.split_at(n)
-}
-
-// A number so many times.
-fn repeated(heap: Global, x: u32, n: usize) -> Result<Vec<u32>, AllocError>
-    ensures { IfOk result (λ v. v.items ≡ replicate n x) }
-{
-    vec![in heap; x; n]
+    numbers.checked_div(wide).unwrap_or(0)
 }
 
 impl Draft {
     // One price everywhere.
     fn with_one_price(self, heap: Global, price: u32) -> Result<Document, AllocError>
-        ensures { IfOk result (λ d. contents d ≡ priced (notes self) price) }
+        ensures { IfOk result (λ d. contents d ≡ by_price (notes self) (Some price)) }
     {
-        let Draft {
-            turn,
-            price: _,
-            squares,
-            wide,
-            numbers,
-        } = self;
-        let right = repeated(heap, price, numbers.len())?;
-        let below = repeated(heap, price, numbers.len())?;
-        let high = rows_in(numbers.len(), wide) as u64;
+        let places = self.numbers.len();
         Ok(Document {
-            wide: wide as u64,
-            high,
-            turn: turn.unwrap_or(0),
-            seen: numbers,
-            right,
-            below,
-            squares,
+            wide: self.wide as u64,
+            high: rows_in(places, self.wide) as u64,
+            turn: self.turn.unwrap_or(0),
+            seen: self.numbers,
+            right: vec![in heap; price; places]?,
+            below: vec![in heap; price; places]?,
+            squares: self.squares,
         })
     }
 
     // A third of the rows each: what was seen, the prices to the right, and those down.
     fn with_prices(self, heap: Global) -> Result<Document, AllocError>
-        ensures { IfOk result (λ d. contents d ≡ thirds (notes self) ((rows_in (length (notes self).numbers) self.wide + 2) / 3)) }
+        ensures { IfOk result (λ d. contents d ≡ by_price (notes self) None) }
     {
-        let Draft {
-            turn,
-            price: _,
-            squares,
-            wide,
-            numbers,
-        } = self;
-        let high = third(rows_in(numbers.len(), wide));
-        let places = high * wide;
-        let (seen, prices) = parted(numbers.as_slice(), places);
+        let high = rows_in(self.numbers.len(), self.wide).div_ceil(3);
+        let places = high * self.wide;
+        let (seen, prices) = parted(self.numbers.as_slice(), places);
         let (right, below) = parted(prices, places);
-        let seen = Vec::from_slice(heap, seen)?;
-        let right = Vec::from_slice(heap, right)?;
-        let below = Vec::from_slice(heap, below)?;
         Ok(Document {
-            wide: wide as u64,
+            wide: self.wide as u64,
             high: high as u64,
-            turn: turn.unwrap_or(0),
-            seen,
-            right,
-            below,
-            squares,
+            turn: self.turn.unwrap_or(0),
+            seen: Vec::from_slice(heap, seen)?,
+            right: Vec::from_slice(heap, right)?,
+            below: Vec::from_slice(heap, below)?,
+            squares: self.squares,
         })
     }
 
@@ -143,15 +117,11 @@ pub fn read(heap: Global, text: &[u8]) -> Result<Document, Unread>
     ensures { Reads (reading text.now) result }
 {
     let mut draft = Draft::new(heap);
-    let mut rest = text;
-    let mut number: u64 = 0;
-    while let Some((line, after)) = next_line(rest) {
-        let Some(next) = draft.with_line(line)? else {
-            return Err(Unread::Refused(Refusal::Text(number)));
+    for (number, line) in Lines(text).enumerate() {
+        draft = match draft.with_line(line) {
+            Ok(next) => next,
+            Err(fault) => return Err(fault.at(number as u64)),
         };
-        draft = next;
-        rest = after;
-        number += 1;
     }
     Ok(draft.finished(heap)?)
 }

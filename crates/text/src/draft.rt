@@ -1,16 +1,18 @@
 // What has been read of a document.
-ghost use Rattle.std.specs.Prelude.{◌≡◌, IfOk};
+ghost use Rattle.std.specs.Prelude.{◌≡◌};
 ghost use Rattle.std.specs.Option.{option_map};
-ghost use Rattle.text.specs.Draft.{blank, notes, with_turn, with_price, with_row, step};
+ghost use Rattle.text.specs.Draft.{blank, notes, with_turn, with_price, with_row, step, Drafted};
 ghost use Rattle.text.specs.Pieces.{words};
 
+use crate::fault::Fault;
 use crate::kind::{Kind, kind_of};
 use crate::numeral::entry;
 use crate::row::push_row;
-use std::alloc::{AllocError, Global};
+use std::alloc::Global;
 
-// The lines so far: the turn and the price where there were any, whether the squares are asked for, how wide rows are (0 before the
-// first), and the numbers of all rows.
+// The lines so far: the turn and the price where there were any, whether the squares are asked for, how wide rows are, and the
+// numbers of all rows. The width is 0 before the first row: no row is 0 wide, and a document without rows is, so that an Option would
+// need a NonZero in it, and be unwrapped to 0 again.
 #[derive(Drop)]
 pub struct Draft {
     pub(crate) turn: Option<u64>,
@@ -38,21 +40,11 @@ impl Draft {
     fn with_turn(self, n: u64) -> Option<Draft>
         ensures { option_map notes result ≡ with_turn (notes self) n }
     {
-        let Draft {
-            turn,
-            price,
-            squares,
-            wide,
-            numbers,
-        } = self;
-        match turn {
+        match self.turn {
             Some(_) => None,
             None => Some(Draft {
                 turn: Some(n),
-                price,
-                squares,
-                wide,
-                numbers,
+                ..self
             }),
         }
     }
@@ -61,80 +53,40 @@ impl Draft {
     fn with_price(self, n: u64) -> Option<Draft>
         ensures { option_map notes result ≡ with_price (notes self) n }
     {
-        let Draft {
-            turn,
-            price,
-            squares,
-            wide,
-            numbers,
-        } = self;
-        match price {
+        match self.price {
             Some(_) => None,
             None => Some(Draft {
-                turn,
                 price: Some(entry(n)),
-                squares,
-                wide,
-                numbers,
+                ..self
             }),
         }
     }
 
-    // With one more row; None where it isn't one, or not as wide as the others.
-    fn with_row(self, line: &[u8]) -> Result<Option<Draft>, AllocError>
-        ensures { IfOk result (λ o. option_map notes o ≡ with_row (notes self) (words line.now)) }
+    // With one more row, if it is one, as wide as the others.
+    fn with_row(mut self, line: &[u8]) -> Result<Draft, Fault>
+        ensures { Drafted (with_row (notes self) (words line.now)) result }
     {
-        let Draft {
-            turn,
-            price,
-            squares,
-            wide,
-            mut numbers,
-        } = self;
-        let before = numbers.len();
-        if !push_row(&mut numbers, line)? {
-            return Ok(None);
+        let before = self.numbers.len();
+        push_row(&mut self.numbers, line)?;
+        let wide = self.numbers.len().saturating_sub(before);
+        if self.wide != 0 && self.wide != wide {
+            return Err(Fault::Unreadable);
         }
-        let added = numbers.len().saturating_sub(before);
-        if wide != 0 && added != wide {
-            return Ok(None);
-        }
-        Ok(Some(Draft {
-            turn,
-            price,
-            squares,
-            wide: added,
-            numbers,
-        }))
+        Ok(Draft { wide, ..self })
     }
 
-    // With one more line; None where that can't be read.
-    pub fn with_line(self, line: &[u8]) -> Result<Option<Draft>, AllocError>
-        ensures { IfOk result (λ o. option_map notes o ≡ step (notes self) line.now) }
+    // With one more line.
+    pub fn with_line(self, line: &[u8]) -> Result<Draft, Fault>
+        ensures { Drafted (step (notes self) line.now) result }
     {
-        let Some(kind) = kind_of(line) else {
-            return Ok(None);
-        };
-        match kind {
-            Kind::Nothing => Ok(Some(self)),
-            Kind::Turn(n) => Ok(self.with_turn(n)),
-            Kind::Price(n) => Ok(self.with_price(n)),
-            Kind::Squares => {
-                let Draft {
-                    turn,
-                    price,
-                    squares: _,
-                    wide,
-                    numbers,
-                } = self;
-                Ok(Some(Draft {
-                    turn,
-                    price,
-                    squares: true,
-                    wide,
-                    numbers,
-                }))
-            }
+        match kind_of(line).ok_or(Fault::Unreadable)? {
+            Kind::Nothing => Ok(self),
+            Kind::Turn(n) => self.with_turn(n).ok_or(Fault::Unreadable),
+            Kind::Price(n) => self.with_price(n).ok_or(Fault::Unreadable),
+            Kind::Squares => Ok(Draft {
+                squares: true,
+                ..self
+            }),
             Kind::Row => self.with_row(line),
         }
     }

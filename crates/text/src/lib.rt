@@ -3,6 +3,7 @@
 
 pub mod document;
 pub mod draft;
+pub mod fault;
 pub mod kind;
 pub mod numeral;
 pub mod pieces;

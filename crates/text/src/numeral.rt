@@ -1,5 +1,5 @@
 // Numbers written in decimal digits.
-ghost use Rattle.std.specs.Prelude.{◌≡◌, ◌+◌, ◌*◌, ◌<◌};
+ghost use Rattle.std.specs.Prelude.{◌≡◌, ◌+◌, ◌*◌};
 ghost use Rattle.std.specs.Option.{option_map};
 ghost use Rattle.text.specs.Numeral.{digit, numeral, capped};
 
@@ -7,40 +7,36 @@ ghost use Rattle.text.specs.Numeral.{digit, numeral, capped};
 fn digit(b: u8) -> Option<u8>
     ensures { result ≡ digit b }
 {
-    if b >= 48 && b <= 57 {
-        Some(b - 48)
-    } else {
-        None
+    match b {
+        b'0'..=b'9' => Some(b - b'0'),
+        _ => None,
     }
 }
 
 // One digit more after a number, which stays at the largest where it is too large.
 fn extended(n: u64, d: u8) -> u64
-    ensures { result ≡ capped 18446744073709551615 (n * 10 + d) }
+    ensures { result ≡ capped u64.MAX (n * 10 + d) }
 {
-    n.saturating_mul(10).saturating_add(d as u64)
+    n.saturating_mul(10).saturating_add(u64::from(d))
 }
 
 // The number that a word writes, the largest where it is too large; None where it is no number.
 pub fn numeral_of(word: &[u8]) -> Option<u64>
-    ensures { result ≡ option_map (capped 18446744073709551615) (numeral word.now) }
+    ensures { result ≡ option_map (capped u64.MAX) (numeral word.now) }
 {
     if word.is_empty() {
         return None;
     }
-    let mut n: u64 = 0;
+    let mut n = 0;
     for b in word {
-        let Some(d) = digit(*b) else {
-            return None;
-        };
-        n = extended(n, d);
+        n = extended(n, digit(*b)?);
     }
     Some(n)
 }
 
 // A number in the range of a list's entries.
 pub fn entry(n: u64) -> u32
-    ensures { result ≡ capped 4294967295 n }
+    ensures { result ≡ capped u32.MAX n }
 {
-    if n > 4294967295 { 4294967295 } else { n as u32 }
+    u32::try_from(n).unwrap_or(u32::MAX)
 }

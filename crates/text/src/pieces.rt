@@ -1,8 +1,10 @@
 // Lines and words: the pieces of a text between marks.
 ghost use Rattle.std.specs.Prelude.{◌≡◌, ℕ, ◌+◌, ◌<◌, ◌≤◌, true, false, ◌∷◌, length, take, drop, slice_index};
+ghost use Rattle.std.specs.Iterator.{YieldsFirstBy, item_count};
 ghost use Rattle.text.specs.Pieces.{parts, pieces, lines, words, First};
 
-// What parts the pieces: ends of lines, or blanks.
+// What parts the pieces: ends of lines, or blanks. An enum and no closure: the definition of pieces takes one too, where a closure would
+// need a test beside it in each contract, and a proof at each call that it is the one.
 #[derive(Clone, Copy, PartialEq, Eq, Debug)]
 pub enum Mark {
     Newline,
@@ -15,8 +17,8 @@ impl Mark {
         ensures { result ≡ parts self b }
     {
         match self {
-            Mark::Newline => b == 10,
-            Mark::Blank => b == 32 || b == 9 || b == 13,
+            Mark::Newline => b == b'\n',
+            Mark::Blank => b == b' ' || b == b'\t' || b == b'\r',
         }
     }
 }
@@ -27,12 +29,8 @@ fn piece_len(mark: Mark, text: &[u8]) -> usize
     ensures before { (k : ℕ) → k < result → parts mark (slice_index text.now k) ≡ false }
     ensures found { result < length text.now → parts mark (slice_index text.now result) ≡ true }
 {
-    for (i, b) in text.iter().enumerate() {
-        if mark.parts(*b) {
-            return i;
-        }
-    }
-    text.len()
+    let first = text.iter().position(|b| mark.parts(*b));
+    first.unwrap_or(text.len())
 }
 
 // What comes before a byte, and what comes after it.
@@ -79,4 +77,40 @@ pub fn next_word(line: &[u8]) -> Option<(&[u8], &[u8])>
         rest = after;
     }
     None
+}
+
+// The lines of a text, from the first.
+#[derive(Drop)]
+pub struct Lines<'a>(pub &'a [u8]);
+
+impl<'a> Iterator for Lines<'a> {
+    type Item = &'a [u8];
+
+    ghost next_gives = { YieldsFirstBy (λ line. line.now) (λ left. lines left.0.now) };
+
+    ghost remaining = { item_count (λ left. lines left.0.now) };
+
+    fn next(&mut self) -> Option<&'a [u8]> {
+        let (line, rest) = next_line(self.0)?;
+        self.0 = rest;
+        Some(line)
+    }
+}
+
+// The words of a line, from the first.
+#[derive(Drop)]
+pub struct Words<'a>(pub &'a [u8]);
+
+impl<'a> Iterator for Words<'a> {
+    type Item = &'a [u8];
+
+    ghost next_gives = { YieldsFirstBy (λ word. word.now) (λ left. words left.0.now) };
+
+    ghost remaining = { item_count (λ left. words left.0.now) };
+
+    fn next(&mut self) -> Option<&'a [u8]> {
+        let (word, rest) = next_word(self.0)?;
+        self.0 = rest;
+        Some(word)
+    }
 }

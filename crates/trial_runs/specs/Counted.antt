@@ -1,5 +1,5 @@
 -- How trials are counted. Assumes nothing: these are definitions.
-use Rattle.std.specs.Prelude.{◌≡◌, ℕ, ◌+◌, ◌-◌, ◌^◌, min, cond}
+use Rattle.std.specs.Prelude.{◌≡◌, ℕ, ◌+◌, ◌-◌, ◌^◌, min, if◌then◌else◌}
 use Rattle.trial_runs.specs.declared.counts.Counts.{Counts}
 use Rattle.trial_runs.specs.declared.counts.Outcome.{Outcome}
 
@@ -7,13 +7,21 @@ use Rattle.trial_runs.specs.declared.counts.Outcome.{Outcome}
 abbrev pub added : ℕ → ℕ → ℕ
 added a b = min (a + b) (2 ^ 32 - 1)
 
+-- one trial
+pub record IsOne (o : Outcome) (counts : Counts) : Type 0 where
+  pub fields : counts.fields ≡ 1
+  pub off : counts.off ≡ (if o.off then 1 else 0)
+  pub costly : counts.costly ≡ (if o.costly then 1 else 0)
+  pub agreed : counts.agreed ≡ (if o.agreed then 1 else 0)
+  pub refused : counts.refused ≡ (if o.refused then 1 else 0)
+
 -- one trial more
 pub record Counted (o : Outcome) (before after : Counts) : Type 0 where
   pub fields : after.fields ≡ added before.fields 1
-  pub off : after.off ≡ added before.off (cond o.off 1 0)
-  pub costly : after.costly ≡ added before.costly (cond o.costly 1 0)
-  pub agreed : after.agreed ≡ added before.agreed (cond o.agreed 1 0)
-  pub refused : after.refused ≡ added before.refused (cond o.refused 1 0)
+  pub off : after.off ≡ added before.off (if o.off then 1 else 0)
+  pub costly : after.costly ≡ added before.costly (if o.costly then 1 else 0)
+  pub agreed : after.agreed ≡ added before.agreed (if o.agreed then 1 else 0)
+  pub refused : after.refused ≡ added before.refused (if o.refused then 1 else 0)
 
 -- all of another count
 pub record CountedAll (more before after : Counts) : Type 0 where

@@ -1,6 +1,5 @@
 // How many trials came out as they should.
-ghost use Rattle.std.specs.Prelude.{◌≡◌, if◌then◌else◌};
-ghost use Rattle.trial_runs.specs.Counted.{Counted, CountedAll};
+ghost use Rattle.trial_runs.specs.Counted.{IsOne, Counted, CountedAll};
 
 use std::fmt;
 
@@ -17,7 +16,7 @@ pub struct Outcome {
     pub refused: bool,
 }
 
-#[derive(Drop)]
+#[derive(Drop, Default)]
 pub struct Counts {
     pub fields: u32,
     pub off: u32,
@@ -26,35 +25,26 @@ pub struct Counts {
     pub refused: u32,
 }
 
-// 1 for what is so.
-fn one_if(so: bool) -> u32
-    ensures { result ≡ (if so then 1 else 0) }
-{
-    if so { 1 } else { 0 }
+impl From<Outcome> for Counts {
+    ghost from_gives = { IsOne };
+
+    fn from(outcome: Outcome) -> Counts {
+        Counts {
+            fields: 1,
+            off: u32::from(outcome.off),
+            costly: u32::from(outcome.costly),
+            agreed: u32::from(outcome.agreed),
+            refused: u32::from(outcome.refused),
+        }
+    }
 }
 
 impl Counts {
-    pub fn none() -> Counts
-        ensures { (result.fields ≡ 0) × (result.off ≡ 0) × (result.costly ≡ 0) × (result.agreed ≡ 0) × (result.refused ≡ 0) }
-    {
-        Counts {
-            fields: 0,
-            off: 0,
-            costly: 0,
-            agreed: 0,
-            refused: 0,
-        }
-    }
-
     // One trial more.
     pub fn add(&mut self, outcome: Outcome)
         ensures { Counted outcome self.old self.new }
     {
-        self.fields = self.fields.saturating_add(1);
-        self.off = self.off.saturating_add(one_if(outcome.off));
-        self.costly = self.costly.saturating_add(one_if(outcome.costly));
-        self.agreed = self.agreed.saturating_add(one_if(outcome.agreed));
-        self.refused = self.refused.saturating_add(one_if(outcome.refused));
+        self.add_all(&Counts::from(outcome));
     }
 
     // All of another count.
@@ -71,11 +61,13 @@ impl Counts {
 
 impl fmt::Display for Counts {
     fn fmt<W: fmt::Write>(&self, f: &mut fmt::Formatter<W>) -> fmt::Result {
-        let fields = self.fields;
-        let off = self.off;
-        let costly = self.costly;
-        let agreed = self.agreed;
-        let refused = self.refused;
+        let Counts {
+            fields,
+            off,
+            costly,
+            agreed,
+            refused,
+        } = self;
         write!(
             f,
             "fields {fields}, off {off}, cost more than 0 {costly}, other rooms refused {refused}, agreed {agreed}"

@@ -18,16 +18,17 @@ impl Draws {
             .state
             .wrapping_mul(6364136223846793005)
             .wrapping_add(1442695040888963407);
-        ((self.state >> 33) % bound as u64) as u32
+        ((self.state >> 33) % u64::from(bound)) as u32
     }
 
     // How wide and high a field is: mostly 2 by 3 or 3 by 2.
     pub fn size(&mut self) -> (u64, u64)
-        ensures { (1 ≤ result.0 * result.1) × (result.0 * result.1 ≤ 6) }
+        ensures some { 1 ≤ result.0 * result.1 }
+        ensures few { result.0 * result.1 ≤ 6 }
     {
         match self.below(32) {
-            0 => (1, 1 + self.below(6) as u64),
-            1 => (1 + self.below(6) as u64, 1),
+            0 => (1, 1 + u64::from(self.below(6))),
+            1 => (1 + u64::from(self.below(6)), 1),
             2..=5 => (2, 2),
             6..=18 => (2, 3),
             _ => (3, 2),

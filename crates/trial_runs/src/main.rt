@@ -1,9 +1,8 @@
 // Turns put back into drawn fields, held to what trying all turns gives.
 #![tactic(auto)]
 
-ghost use Rattle.std.specs.Prelude.{◌≡◌, ◌<◌, ◌≤◌, true, false, Decides};
-ghost use Rattle.unwrap.specs.declared.Done.TheVariants.{Back, Refused};
-ghost use Rattle.trial_runs.specs.Agreed.{Agreed};
+ghost use Rattle.std.specs.Prelude.{◌≤◌, ◌↔◌, IsTrue};
+ghost use Rattle.trial_runs.specs.Agreed.{Agreed, Costs};
 
 mod counts;
 mod draw;
@@ -26,17 +25,14 @@ const FIELDS: u32 = 100;
 
 // Whether something is put back, and costs more than nothing.
 fn costs(done: Done) -> bool
-    ensures { elim done [ Back c ↦ Decides result (0 < c) | Refused n ↦ result ≡ false ] }
+    ensures { IsTrue result ↔ Costs done }
 {
-    match done {
-        Done::Back(cost) => cost > 0,
-        Done::Refused(_) => false,
-    }
+    matches!(done, Done::Back(1..))
 }
 
 // Whether turns are put back into a field, and trying agrees with what is answered of them.
 fn back_agrees(trial: &Trial, done: Done, turns: &[i64]) -> bool
-    ensures { result ≡ true → Agreed trial.now done turns.now }
+    ensures { IsTrue result → Agreed trial.now done turns.now }
 {
     match (done, trial.field()) {
         (Done::Back(cost), Some(field)) => agrees(&field, turns, cost),
@@ -69,7 +65,7 @@ fn try_field(trial: &Trial) -> Outcome {
 
 // Tries fields with prices of one kind, and prints each in which something is not as it should be.
 fn try_prices(rt: &HostRuntime, draws: &mut Draws, prices: Prices) -> io::Result<Counts> {
-    let mut counts = Counts::none();
+    let mut counts = Counts::default();
     for _ in 0..FIELDS {
         let trial = Trial::draw(draws, prices);
         let outcome = try_field(&trial);
@@ -83,7 +79,7 @@ fn try_prices(rt: &HostRuntime, draws: &mut Draws, prices: Prices) -> io::Result
 
 fn main(rt: HostRuntime) -> io::Result<()> {
     let mut draws = Draws { state: 20240229 };
-    let mut total = Counts::none();
+    let mut total = Counts::default();
     for prices in [Prices::One, Prices::Few, Prices::Any, Prices::MostlyNone] {
         let counts = try_prices(&rt, &mut draws, prices)?;
         let name = prices.name();

@@ -1,5 +1,5 @@
 // A drawn field of at most six places.
-ghost use Rattle.std.specs.Prelude.{◌≡◌, ℕ, ◌<◌, ◌≤◌, take, length, MatchOption, slice_index};
+ghost use Rattle.std.specs.Prelude.{◌≡◌, ℕ, ◌<◌, ◌≤◌, take, length, IfSome, IfNone, slice_index};
 
 use crate::draw::{Draws, Prices};
 use grid::field::Field;
@@ -16,7 +16,8 @@ pub struct Trial {
     pub seen: [u32; 6],
     pub right: [u32; 6],
     pub below: [u32; 6],
-    ghost few: { (1 ≤ places) × (places ≤ 6) },
+    ghost some: { 1 ≤ places },
+    ghost few: { places ≤ 6 },
     ghost turns: { 2 ≤ turn },
 }
 
@@ -70,15 +71,21 @@ impl Trial {
     // Draws what is seen anew.
     fn see_again(&mut self, draws: &mut Draws)
         ensures seen { (k : ℕ) → k < 6 → slice_index self.new.seen k < self.old.turn }
-        ensures size { (self.new.wide ≡ self.old.wide) × (self.new.high ≡ self.old.high) × (self.new.places ≡ self.old.places) }
-        ensures rest { (self.new.turn ≡ self.old.turn) × (self.new.right ≡ self.old.right) × (self.new.below ≡ self.old.below) }
+        ensures wide { self.new.wide ≡ self.old.wide }
+        ensures high { self.new.high ≡ self.old.high }
+        ensures turn { self.new.turn ≡ self.old.turn }
+        ensures places { self.new.places ≡ self.old.places }
+        ensures right { self.new.right ≡ self.old.right }
+        ensures below { self.new.below ≡ self.old.below }
     {
         self.seen = draw_seen(draws, self.turn);
     }
 
     // The field as it is lent.
     pub fn lent(&self) -> Lent<'_, '_, '_>
-        ensures size { (result.wide ≡ self.now.wide) × (result.high ≡ self.now.high) × (result.turn ≡ self.now.turn) }
+        ensures wide { result.wide ≡ self.now.wide }
+        ensures high { result.high ≡ self.now.high }
+        ensures turn { result.turn ≡ self.now.turn }
         ensures seen { result.seen.now ≡ take self.now.places self.now.seen }
         ensures right { result.right.now ≡ take self.now.places self.now.right }
         ensures below { result.below.now ≡ take self.now.places self.now.below }
@@ -86,7 +93,7 @@ impl Trial {
         Lent {
             wide: self.wide,
             high: self.high,
-            turn: self.turn as u64,
+            turn: u64::from(self.turn),
             seen: &self.seen[0..self.places],
             right: &self.right[0..self.places],
             below: &self.below[0..self.places],
@@ -95,7 +102,8 @@ impl Trial {
 
     // The field that it lends, if it is one.
     pub fn field(&self) -> Option<Field>
-        ensures { MatchOption result (TurnedAway self.now) (λ f. Lends self.now f) }
+        ensures some { IfSome result (Lends self.now) }
+        ensures none { IfNone result (TurnedAway self.now) }
     {
         Field::take(&self.lent(), self.places as u64).ok()
     }

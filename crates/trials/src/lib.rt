@@ -131,7 +131,7 @@ mod tests {
     fn rows_may_lack_numbers(rt: HostRuntime) -> Result<(), Fail> {
         let heap = rt.alloc();
         let mut out = String::new(heap);
-        push_rows(heap, &mut out, 2, 3, &[1, 2, 3])?;
+        push_rows(&mut out, 2, 3, &[1, 2, 3])?;
         assert_eq!(rt; out.as_str(), "1 2\n3\n\n");
         Ok(())
     }

@@ -1,8 +1,9 @@
 -- Turns from -2 to 2 and their codes.
-use Rattle.std.proofs.Common.{◌≡◌, ℕ, zero, suc, ◌+◌, ◌*◌, ◌/◌, ◌%◌, ◌^◌, ◌<◌, ◌≤◌, ◌⊎◌, List, length, get_or, set, ℤ, pos, ◌+ℤ◌, ◌-ℤ◌, nat_abs, sym, refl, ap, ◌∙◌, subst, ⊎_elim, pow-suc, arith, get_or-set_other, get_or-set_same}
+use Rattle.std.proofs.Common.{◌≡◌, ℕ, zero, suc, ◌+◌, ◌*◌, ◌/◌, ◌%◌, ◌^◌, ◌<◌, ◌≤◌, min, List, length, get_or, set, ℤ, pos, ◌+ℤ◌, ◌-ℤ◌, nat_abs, sym, refl, ap, ◌∙◌, subst, ⊎_elim, pow-suc, arith, get_or-set_other, get_or-set_same}
 use native.Mathlib.Nat.{one-le-pow, pow-le-pow_right}
 use Rattle.std.proofs.lemmas.Int.{ints}
-use Rattle.std.proofs.lemmas.Bool.{cases_eq}
+use Rattle.std.proofs.lemmas.Bool.{cases_eq, cases_lt}
+use Rattle.std.proofs.Math.Nat.{min-le_left, min-le_right, min-eq_left, min-eq_right}
 use Rattle.std.proofs.lemmas.Nat.{mul-add-lt, div-mul-add, mod-mul-add, div_below, mod_below}
 use Rattle.grid.specs.Field.{Field, Turns, turns_in}
 use Rattle.laws.specs.Cost.{cost}
@@ -97,10 +98,10 @@ first_least g c e = record {
     zero_is : (k : ℕ) → k < 1 → 0 ≡ k
     zero_is k l = omega arith
 
-pub lesser_least : (g : ℕ → ℕ) (n c r m : ℕ) → LeastOf g n c → r ≡ g n → m ≤ c → m ≤ r → (m ≡ c) ⊎ (m ≡ r) → LeastOf g (n + 1) m
-lesser_least g n c r m s e p q o = record {
-  least = λ k l. ⊎_elim (λ i. subst (λ (j : ℕ). m ≤ g j) (sym i) (omega (arith, e))) (λ i. omega (arith, s.least k (omega arith))) (cases_eq k n);
-  some = ⊎_elim (λ i. (s.some.0, omega (arith, s.some.1), s.some.2 ∙ sym i)) (λ i. (n, omega arith, sym e ∙ sym i)) o;
+pub lesser_least : (g : ℕ → ℕ) (n c r m : ℕ) → LeastOf g n c → r ≡ g n → m ≡ min c r → LeastOf g (n + 1) m
+lesser_least g n c r m s e is = record {
+  least = λ k l. ⊎_elim (λ i. subst (λ (j : ℕ). m ≤ g j) (sym i) (omega (arith, e, is, min-le_right c r))) (λ i. omega (arith, is, min-le_left c r, s.least k (omega arith))) (cases_eq k n);
+  some = ⊎_elim (λ i. (s.some.0, omega (arith, s.some.1), s.some.2 ∙ sym (is ∙ min-eq_left (omega arith)))) (λ i. (n, omega arith, sym e ∙ sym (is ∙ min-eq_right i))) (cases_lt c r);
 }
 
 -- ---- a room with the turns of a code

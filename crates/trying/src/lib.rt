@@ -1,7 +1,7 @@
 // The least cost of turns from -2 to 2, found by trying them all.
 #![tactic(auto)]
 
-ghost use Rattle.std.specs.Prelude.{◌≡◌, ℕ, ◌*◌, ◌%◌, ◌^◌, ◌<◌, ◌≤◌, ◌⊎◌, length, pos, ◌-ℤ◌, Decides, MatchOption, slice_index_or};
+ghost use Rattle.std.specs.Prelude.{◌≡◌, ℕ, ◌*◌, ◌%◌, ◌^◌, ◌<◌, ◌≤◌, ◌↔◌, length, pos, ◌-ℤ◌, IsTrue, IsSome, IfSome, slice_index_or};
 ghost use Rattle.grid.specs.Model.{field_of};
 ghost use Rattle.laws.specs.Cost.{cost};
 ghost use Rattle.trying.specs.Tried.{Agrees, LeastTried, LeastOf, turns_at, turns_of};
@@ -44,21 +44,15 @@ fn cost_of(field: &Field, code: u64) -> u64
     }
 }
 
-fn lesser(a: u64, b: u64) -> u64
-    ensures least { (result ≤ a) × (result ≤ b) }
-    ensures one { (result ≡ a) ⊎ (result ≡ b) }
-{
-    if b < a { b } else { a }
-}
-
 // The least cost of the turns of the first so many codes.
 fn least_of(field: &Field, codes: u64) -> u64
-    requires { (field.now.wide * field.now.high ≤ 6) × (1 ≤ codes) }
+    requires few { field.now.wide * field.now.high ≤ 6 }
+    requires some { 1 ≤ codes }
     ensures { LeastOf (λ k. cost (field_of field.now) (turns_of field.now.wide k)) codes result }
 {
     let mut least = cost_of(field, 0);
     for code in 1..codes {
-        least = lesser(least, cost_of(field, code));
+        least = least.min(cost_of(field, code));
     }
     least
 }
@@ -70,7 +64,8 @@ fn least_of(field: &Field, codes: u64) -> u64
 // most, each of half a turn at most, so heights differ by two and a half turns at most, what was seen by less than one, and turns by three
 // at most. This is not proved.
 pub fn least_tried(field: &Field) -> Option<u64>
-    ensures { MatchOption result (6 < field.now.wide * field.now.high) (λ c. (field.now.wide * field.now.high ≤ 6) × LeastTried (field_of field.now) c) }
+    ensures some { IsSome result ↔ (field.now.wide * field.now.high ≤ 6) }
+    ensures least { IfSome result (LeastTried (field_of field.now)) }
 {
     let places = field.places();
     if places > MOST {
@@ -81,16 +76,9 @@ pub fn least_tried(field: &Field) -> Option<u64>
 
 // Whether the turns in a room cost what was answered, nothing that can be tried costs less, and the first of them is 0.
 pub fn agrees(field: &Field, room: &[i64], answered: u64) -> bool
-    ensures { Decides result (Agrees (field_of field.now) room.now answered) }
+    ensures { IsTrue result ↔ Agrees (field_of field.now) room.now answered }
 {
-    let Some(tried) = least_tried(field) else {
-        return false;
-    };
-    let Some(left) = cost(field, room) else {
-        return false;
-    };
-    if room.is_empty() {
-        return false;
-    }
-    tried == answered && left == answered && room[0] == 0
+    least_tried(field) == Some(answered)
+        && cost(field, room) == Some(answered)
+        && room.first() == Some(&0)
 }

@@ -3,7 +3,9 @@ use Rattle.std.proofs.Common.{◌≡◌, ℕ, ◌+◌, ◌-◌, ◌*◌, ◌<◌
 use Rattle.std.proofs.lemmas.Nat.{mul-le}
 use Rattle.sums.specs.Sum.{sum_to}
 use Rattle.sums.proofs.Loop.{sum_none, sum_more}
-use Rattle.turns.specs.Rows.{Most, differs_by, along, across, row_cost, between_cost, RowFits, RowsFit, PricesFit}
+use Rattle.turns.specs.Rows.{Most, differs_by, along, across, row_cost, between_cost, RowFits, PricesFit}
+use Rattle.turns.specs.Place.{IsAt}
+use Rattle.turns.specs.declared.place.Place.{Place}
 use Rattle.grid.proofs.Near.{near_by_small}
 use Rattle.std.proofs.lemmas.Int.{ints}
 
@@ -29,9 +31,9 @@ pub along_small : (t : ℕ) (ss : List ℕ) (us : List ℤ) (ps : List ℕ) (x :
 along_small t ss us ps x r p l =
     step_small t (get_or ss x 0) (get_or ss (x + 1) 0) (get_or ps x 0) (get_or us x (pos 0)) (get_or us (x + 1) (pos 0)) (r.most x (omega arith)) (r.most (x + 1) (omega arith)) (p.small x (omega arith))
 
-pub across_small : (t : ℕ) (ss : List ℕ) (us : List ℤ) (rs : List ℕ) (vs : List ℤ) (ps : List ℕ) (x : ℕ) → RowsFit ss us rs vs → PricesFit (length ss) ps → x < length ss → across t ss us rs vs ps x ≤ 2097153000
-across_small t ss us rs vs ps x r p l =
-    step_small t (get_or ss x 0) (get_or rs x 0) (get_or ps x 0) (get_or us x (pos 0)) (get_or vs x (pos 0)) (r.upper.most x l) (r.lower.most x (omega (arith, r.even))) (p.small x l)
+pub across_small : (t : ℕ) (ss : List ℕ) (us : List ℤ) (rs : List ℕ) (vs : List ℤ) (ps : List ℕ) (x : ℕ) → RowFits ss us → RowFits rs vs → length rs ≡ length ss → PricesFit (length ss) ps → x < length ss → across t ss us rs vs ps x ≤ 2097153000
+across_small t ss us rs vs ps x upper lower even p l =
+    step_small t (get_or ss x 0) (get_or rs x 0) (get_or ps x 0) (get_or us x (pos 0)) (get_or vs x (pos 0)) (upper.most x l) (lower.most x (omega arith)) (p.small x l)
 
 pub row_all : (t : ℕ) (ss : List ℕ) (us : List ℤ) (ps : List ℕ) (cost : ℕ) → SoFar (along t ss us ps) (length ss - 1) cost → cost ≡ row_cost t ss us ps
 unfolding row_cost
@@ -40,3 +42,10 @@ row_all t ss us ps cost s = s.is ∙ rw (sub-one (length ss))
 pub between_all : (t : ℕ) (ss : List ℕ) (us : List ℤ) (rs : List ℕ) (vs : List ℤ) (ps : List ℕ) (cost : ℕ) → SoFar (across t ss us rs vs ps) (length ss) cost → cost ≡ between_cost t ss us rs vs ps
 unfolding between_cost
 between_all t ss us rs vs ps cost s = s.is
+
+-- what a step costs between two places of rows
+pub step_told : (t price : ℕ) (ss rs : List ℕ) (us vs : List ℤ) (i j : ℕ) (p q : Place) (r : ℕ) → IsAt ss us i p → IsAt rs vs j q →
+    r ≡ price * nat_abs (differs_by t p.seen q.seen p.turns q.turns) →
+    r ≡ price * nat_abs (differs_by t (get_or ss i 0) (get_or rs j 0) (get_or us i (pos 0)) (get_or vs j (pos 0)))
+step_told t price ss rs us vs i j p q r a b e =
+    let ps = a.seen in let pt = a.turns in let qs = b.seen in let qt = b.turns in cc

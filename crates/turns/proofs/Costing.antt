@@ -1,6 +1,5 @@
 -- The cost by rows.
 use Rattle.std.proofs.Common.{◌≡◌, ℕ, zero, suc, pred, ◌+◌, ◌*◌, ◌<◌, ◌≤◌, List, get_or, ℤ, pos, ◌-ℤ◌, nat_abs, sym, ap, ◌∙◌, add-one, arith}
-use Rattle.std.proofs.lemmas.Nat.{mul-add-lt}
 use Rattle.sums.specs.Sum.{sum_to}
 use Rattle.sums.proofs.Sum.{sum_ext}
 use Rattle.sums.proofs.Loop.{sum_none, sum_more}
@@ -9,8 +8,8 @@ use Rattle.grid.specs.Model.{Row}
 use Rattle.grid.specs.Promise.{near_by}
 use Rattle.laws.specs.Cost.{cost, heights_cost, all_steps, turn_steps, more_right, more_below}
 use Rattle.laws.proofs.Cost.{cost_turns}
-use Rattle.turns.specs.Rows.{along, across, row_cost, between_cost, RowFits, PricesFit}
-use Rattle.turns.specs.Parts.{right_part, below_part, RoomFits, LineOf}
+use Rattle.turns.specs.Rows.{along, across, row_cost, between_cost, PricesFit}
+use Rattle.turns.specs.Parts.{right_part, below_part, LineOf}
 
 pred_less : (x n : ℕ) → x < pred n → x + 1 < n
 pred_less x zero l = absurd (omega arith)
@@ -54,18 +53,6 @@ between_part f room y ss us rs vs ps l k p =
         let d = k.turns_at x m in
         let q = p x m in
         cc
-
--- the rows of a room that fits do
-pub line_fits : (f : Field) (room : List ℤ) (y : ℕ) (ss : List ℕ) (us : List ℤ) → RoomFits f room → 1 ≤ f.wide → f.wide ≤ 64 → y < f.high → LineOf f room y ss us → RowFits ss us
-unfolding turns_in
-line_fits f room y ss us r a b h l = record {
-  some = omega (arith, l.long);
-  few = omega (arith, l.long);
-  even = l.even ∙ sym l.long;
-  most = λ x m.
-      let k : x < f.wide = omega (arith, l.long) in
-      rw (l.turns_at x k) (r.most (y * f.wide + x) (mul-add-lt y f.wide x f.high h k));
-}
 
 -- so much for the rows so far, and no more than the dearest rows would cost
 pub record RowsSoFar (g : ℕ → ℕ) (y cost : ℕ) : Type 0 where

@@ -32,12 +32,6 @@ pub record RowFits (ss : List ℕ) (us : List ℤ) : Type 0 where
   pub even : length us ≡ length ss
   pub most : (x : ℕ) → x < length ss → Most (slice_index_or us x (pos 0))
 
--- lists for a row and the next
-pub record RowsFit (ss : List ℕ) (us : List ℤ) (rs : List ℕ) (vs : List ℤ) : Type 0 where
-  pub upper : RowFits ss us
-  pub lower : RowFits rs vs
-  pub even : length rs ≡ length ss
-
 pub record PricesFit (n : ℕ) (ps : List ℕ) : Type 0 where
   pub even : length ps ≡ n
   pub small : (x : ℕ) → x < n → slice_index ps x ≤ 1000

@@ -1,5 +1,5 @@
 // Turns that follow steps: down the first column, and along each row.
-ghost use Rattle.std.specs.Prelude.{◌≡◌, ℕ, ◌*◌, ◌≤◌, length, pos, slice_index_or, unsigned_abs};
+ghost use Rattle.std.specs.Prelude.{◌≡◌, ℕ, ◌*◌, ◌<◌, ◌≤◌, length, pos, slice_index_or, unsigned_abs};
 ghost use Rattle.turns.specs.Follow.{StepsSmall, Follows, Integrated, Expected};
 ghost use Rattle.grid.specs.Model.{field_of, HasRight, HasBelow, turns_right_from, turns_below_from};
 
@@ -13,38 +13,34 @@ pub struct Steps {
     pub below: [i64; 4096],
 }
 
-// The steps to the right that one expects of a field, in turns; 0 where there is none.
-fn expected_right(field: &Field) -> [i64; 4096]
-    ensures is { (p : ℕ) → HasRight (field_of field.now) p → slice_index_or result p (pos 0) ≡ turns_right_from (field_of field.now) p }
-    ensures small { (p : ℕ) → unsigned_abs (slice_index_or result p (pos 0)) ≤ 1 }
+// What is told of each place.
+fn listed<F: Fn(usize) -> i64>(told: F) -> [i64; 4096]
+    requires { F.IsAlwaysCallable told }
+    ensures { (p : ℕ) → p < 4096 → F.post told p (slice_index_or result p (pos 0)) }
 {
-    let mut right = [0; 4096];
-    for place in 0..field.places() {
-        right[place] = field.turns_right(place).unwrap_or(0);
+    let mut all = [0; 4096];
+    for (place, turns) in all.iter_mut().enumerate() {
+        *turns = told(place);
     }
-    right
-}
-
-// The steps down that one expects of a field, in turns; 0 where there is none.
-fn expected_below(field: &Field) -> [i64; 4096]
-    ensures is { (p : ℕ) → HasBelow (field_of field.now) p → slice_index_or result p (pos 0) ≡ turns_below_from (field_of field.now) p }
-    ensures small { (p : ℕ) → unsigned_abs (slice_index_or result p (pos 0)) ≤ 1 }
-{
-    let mut below = [0; 4096];
-    for place in 0..field.places() {
-        below[place] = field.turns_below(place).unwrap_or(0);
-    }
-    below
+    all
 }
 
 impl Steps {
-    // The steps that one expects of a field.
+    // The steps that one expects of a field, 0 where there is none.
     pub fn expected(field: &Field) -> Steps
         ensures { Expected (field_of field.now) result.right result.below }
     {
+        let right = |place: usize| -> i64
+            ensures is { HasRight (field_of field.entry.now) place → result ≡ turns_right_from (field_of field.entry.now) place }
+            ensures small { unsigned_abs result ≤ 1 }
+        { field.turns_right(place).unwrap_or(0) };
+        let below = |place: usize| -> i64
+            ensures is { HasBelow (field_of field.entry.now) place → result ≡ turns_below_from (field_of field.entry.now) place }
+            ensures small { unsigned_abs result ≤ 1 }
+        { field.turns_below(place).unwrap_or(0) };
         Steps {
-            right: expected_right(field),
-            below: expected_below(field),
+            right: listed(right),
+            below: listed(below),
         }
     }
 }

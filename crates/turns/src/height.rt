@@ -14,15 +14,10 @@ use grid::steps::turned;
 pub fn height(field: &Field, room: &[i64], place: usize) -> Option<i64>
     ensures { SomeIff result (HasHeight (field_of field.now) room.now place) (height (field_of field.now) (turns_in field.now.wide room.now) (column (field_of field.now) place) (row (field_of field.now) place)) }
 {
-    let Some(seen) = field.seen(place) else {
-        return None;
-    };
-    if place >= room.len() {
-        return None;
-    }
-    let turns = room[place];
+    let seen = field.seen(place)?;
+    let turns = *room.get(place)?;
     if turns.unsigned_abs() > MOST {
         return None;
     }
-    Some(turned(seen as i64, turns, field.turn()))
+    Some(turned(i64::from(seen), turns, field.turn()))
 }

@@ -1,20 +1,26 @@
 -- A network of the edges between a field's squares.
-use Rattle.std.proofs.Common.{◌≡◌, ℕ, ◌+◌, ◌-◌, ◌*◌, ◌^◌, ◌<◌, ◌≤◌, Bool, true, false, cond, ltb, List, length, get_or, take, drop, replicate, ℤ, pos, ◌+ℤ◌, sym, refl, ap, ◌∙◌, subst, arith}
-use lib.ListN.{length-replicate, get_or-replicate}
-use Rattle.std.proofs.lemmas.List.Edits.{length-between, get_or-between}
+use Rattle.std.proofs.Common.{◌≡◌, ℕ, ◌+◌, ◌*◌, ◌^◌, ◌<◌, ◌≤◌, Bool, true, false, cond, ltb, List, length, get_or, take, replicate, ℤ, pos, ◌+ℤ◌, sym, refl, ◌∙◌, subst, arith}
+use lib.ListN.{length-replicate}
+use Rattle.std.proofs.lemmas.List.{length-take-le}
 use Rattle.std.proofs.lemmas.Int.{ints}
 use Rattle.std.proofs.lemmas.Bool.Decides.{nat_tests}
 use Rattle.sums.proofs.Sum.{sum_ℤ_zero}
 use Rattle.grid.specs.Field.{Field}
 use Rattle.grid.specs.declared.field.Field.{Field as Held}
 use Rattle.grid.specs.Model.{field_of}
-use Rattle.network.specs.Graph.{Graph, Laws}
+use Rattle.network.specs.Graph.{Graph, Laws, WellFormed, graph_of}
 use Rattle.edges.specs.Edges.{Edges, Built, Lawful}
-use Rattle.edges.specs.Grouped.{gain, FitEdges}
+use Rattle.edges.specs.Grouped.{gain, grouped, FitEdges}
+use Rattle.edges.specs.Ends.{from_of, to_of}
+use Rattle.edges.specs.Lists.{edges_of, arcs_of}
+use Rattle.edges.specs.Placed.{Placed}
+use Rattle.edges.specs.Slots.{base}
+use Rattle.edges.specs.declared.edge.Edge.{Edge}
+use Rattle.edges.specs.declared.lists.ArcLists.{ArcLists}
+use Rattle.edges.proofs.Grouping.{grouped_is_network}
 use Rattle.squares.specs.Squares.{places, squares_edges}
 use Rattle.squares.proofs.Start.{edges_lie}
-use Rattle.unwrap.specs.declared.list.Crossings.{Crossings}
-use Rattle.unwrap.specs.Listed.{AreSquares, Listed, Long}
+use Rattle.unwrap.specs.Listed.{AreSquares}
 use Rattle.unwrap.proofs.Fitting.{few_places}
 
 -- prices are not below 0
@@ -47,6 +53,9 @@ none z l k e = subst (λ (i : ℤ). gain i l ≡ pos 0) (sym e) (at k)
 pub count_of : (f : Field) → (squares_edges f).count ≡ places f + places f
 unfolding squares_edges
 count_of f = refl
+
+pub count_few : (f : Held) (edges : List Edge) → AreSquares (field_of f) (edges_of edges) → length edges ≤ 8192
+count_few f edges s = omega (arith, s.count_is, count_of (field_of f), few_places f)
 
 pub fit_of : (f : Held) (es : Edges) → AreSquares (field_of f) es → FitEdges es (places (field_of f))
 fit_of f es s = record {
@@ -86,18 +95,11 @@ built_of f es g arc s b = record {
     back : (e : ℕ) → e < (squares_edges f).count → e < es.count
     back e l = subst (λ (n : ℕ). e < n) (sym s.count_is) l
 
--- the first part of an array is as long as it says
-pub part_long : (n k : ℕ) → k ≤ n → length (take (k - 0) (drop 0 (replicate {A = ℕ} n 0))) ≡ k
-part_long n k l = length-between (replicate {A = ℕ} n 0) 0 k (omega (arith, length-replicate {A = ℕ} n 0)) ∙ omega arith
-
-pub part_long_ℤ : (n k : ℕ) → k ≤ n → length (take (k - 0) (drop 0 (replicate n (pos 0)))) ≡ k
-part_long_ℤ n k l = length-between (replicate n (pos 0)) 0 k (omega (arith, length-replicate n (pos 0))) ∙ omega arith
-
--- a network whose arcs are counted another way
-abbrev pub with_arcs : Graph → ℕ → Graph
-with_arcs g k =
+-- a network whose nodes and arcs are counted another way
+abbrev counted : Graph → ℕ → ℕ → Graph
+counted g n k =
     record {
-      nodes = g.nodes;
+      nodes = n;
       arcs = k;
       first = g.first;
       tail = g.tail;
@@ -107,40 +109,24 @@ with_arcs g k =
       limit = g.limit;
     }
 
-pub laws_at : (g : Graph) (k : ℕ) → k ≡ g.arcs → Laws g → Laws (with_arcs g k)
-laws_at g k e w = subst (λ (i : ℕ). Laws (with_arcs g i)) (sym e) w
+laws_counted : (g : Graph) (n k : ℕ) → n ≡ g.nodes → k ≡ g.arcs → Laws g → Laws (counted g n k)
+laws_counted g n k p q w = subst (λ (i : ℕ). Laws (counted g i k)) (sym p) (subst (λ (i : ℕ). Laws (counted g g.nodes i)) (sym q) w)
 
-pub built_at : (es : Edges) (g : Graph) (arc : ℕ → ℕ) (k : ℕ) → k ≡ g.arcs → Built es g arc → Built es (with_arcs g k) arc
-built_at es g arc k e b = subst (λ (i : ℕ). Built es (with_arcs g i) arc) (sym e) b
+built_counted : (es : Edges) (g : Graph) (arc : ℕ → ℕ) (n k : ℕ) → n ≡ g.nodes → k ≡ g.arcs → Built es g arc → Built es (counted g n k) arc
+built_counted es g arc n k p q b = subst (λ (i : ℕ). Built es (counted g i k) arc) (sym p) (subst (λ (i : ℕ). Built es (counted g g.nodes i) arc) (sym q) b)
 
--- the limit stands at each edge
-pub limit_part : (n k e : ℕ) (z : ℤ) → k ≤ n → e < k → get_or (take (k - 0) (drop 0 (replicate n z))) e (pos 0) ≡ z
-limit_part n k e z l h =
-    get_or-between (replicate n z) 0 k e (pos 0) (omega arith) ∙ ap (λ (i : ℕ). get_or (replicate n z) i (pos 0)) (omega arith) ∙ get_or-replicate n e z (pos 0) (omega arith)
+-- arcs that are grouped are a network of the squares
+module _ (f : Held) (edges : List Edge) (n : ℕ) (first : List ℕ) (lists : ArcLists) (is : n ≡ places (field_of f)) (squares : AreSquares (field_of f) (edges_of edges)) (nodes : length first ≡ n + 1)
+    (arcs : length lists.arcs.now ≡ length edges * 2) (begins : (v : ℕ) → v ≤ n → get_or first v 0 ≡ base (from_of edges) (to_of edges) (length edges) v) (placed : Placed (edges_of edges) n (length edges) (arcs_of lists)) where
+  made : Laws (grouped n (edges_of edges) (λ v. get_or first v 0) (arcs_of lists)) × Built (edges_of edges) (grouped n (edges_of edges) (λ v. get_or first v 0) (arcs_of lists)) (arcs_of lists).arc
+  made = grouped_is_network (edges_of edges) n (λ v. get_or first v 0) (arcs_of lists) (subst (FitEdges (edges_of edges)) (sym is) (fit_of f (edges_of edges) squares)) begins placed
 
-pub limit_long : (n k : ℕ) (z : ℤ) → k ≤ n → length (take (k - 0) (drop 0 (replicate n z))) ≡ k
-limit_long n k z l = length-between (replicate n z) 0 k (omega (arith, length-replicate n z)) ∙ omega arith
+  pub made_formed : WellFormed first lists.arcs.now
+  made_formed = record { some = omega (arith, nodes); laws = laws_counted (grouped n (edges_of edges) (λ v. get_or first v 0) (arcs_of lists)) _ _ (omega (arith, nodes)) arcs made.0 }
 
--- lists of all edges, at one price both ways
-pub lists_are : (f : Field) (l : Crossings) (limit : List ℤ) → Long (places f + places f) l → Listed f (places f + places f) l → ((e : ℕ) → e < places f + places f → get_or limit e (pos 0) ≡ pos (2 ^ 60)) →
-    AreSquares f (record {
-      count = length l.from.now;
-      from = λ e. get_or l.from.now e 0;
-      to = λ e. get_or l.to.now e 0;
-      cost = λ e. get_or l.price.now e (pos 0);
-      back = λ e. get_or l.price.now e (pos 0);
-      limit = λ e. get_or limit e (pos 0);
-      back_limit = λ e. get_or limit e (pos 0);
-    })
-lists_are f l limit long listed h = record {
-  count_is = long.from_long ∙ sym (count_of f);
-  from_is = λ e k. listed.from_is e (in_all e k);
-  to_is = λ e k. listed.to_is e (in_all e k);
-  cost_is = λ e k. listed.price_is e (in_all e k);
-  back_is = λ e k. listed.price_is e (in_all e k) ∙ sym (back_same f e);
-  limit_is = λ e k. h e (in_all e k) ∙ sym (limit_same f e);
-  back_limit_is = λ e k. h e (in_all e k) ∙ sym (limit_same f e) ∙ sym (back_limit_same f e);
-}
-  where
-    in_all : (e : ℕ) → e < length l.from.now → e < places f + places f
-    in_all e k = omega (arith, long.from_long)
+  pub made_built : Built (squares_edges (field_of f)) (graph_of first lists.arcs.now) (λ e. get_or lists.arc_of.now e 0)
+  made_built = built_of (field_of f) (edges_of edges) _ _ squares (built_counted (edges_of edges) (grouped n (edges_of edges) (λ v. get_or first v 0) (arcs_of lists)) _ _ _ (omega (arith, nodes)) arcs made.1)
+
+-- the first part of an array is as long as it says
+pub part_long : {A : Type 0} (n k : ℕ) (x : A) → k ≤ n → length (take k (replicate n x)) ≡ k
+part_long n k x l = length-take-le k (replicate n x) (omega (arith, length-replicate n x))

@@ -1,5 +1,6 @@
 -- Steps with flows across them are those of turns that cost least.
-use Rattle.std.proofs.Common.{◌≡◌, ℕ, suc, ◌+◌, ◌*◌, ◌/◌, ◌%◌, ◌<◌, ◌≤◌, List, length, get_or, ℤ, pos, ◌+ℤ◌, sym, refl, ◌∙◌, ap₂, arith}
+use Rattle.std.proofs.Common.{◌≡◌, ℕ, suc, ◌+◌, ◌*◌, ◌/◌, ◌%◌, ◌<◌, ◌≤◌, List, ◌++◌, length, get_or, ℤ, pos, ◌+ℤ◌, nat_abs, sym, refl, ap, ◌∙◌, ap₂, arith}
+use Rattle.std.proofs.lemmas.List.{get_or_append_left, get_or-append-add}
 use Rattle.std.proofs.lemmas.Nat.{mul-add-lt, div-mul-add, mod-mul-add}
 use Rattle.sums.specs.Sum.{sum_ℤ}
 use Rattle.sums.proofs.Sum.{sum_ℤ_ext}
@@ -13,28 +14,30 @@ use Rattle.turns.specs.Follow.{Expected}
 use Rattle.unwrap.specs.Settled.{Crossed, Added, Addable, LeastSteps}
 use Rattle.unwrap.proofs.Adding.{added_small}
 
--- what is added to the steps of a field can be
-pub addable_right : (f : Field) (g : Graph) (n : ℕ) (arc : List ℕ) (flow right below : List ℤ) → Built (squares_edges f) g (λ e. get_or arc e 0) → Crossed f (λ e. get_or arc e 0) (λ a. get_or flow a (pos 0)) → Expected f right below →
-    n ≡ places f → length arc ≡ places f + places f → length flow ≡ g.arcs → n ≤ length right → Addable n 0 arc flow right
+-- flows along some of a network's edges, from one on, can be added to small steps
+pub addable : (f : Field) (g : Graph) (first : ℕ) (arc arcs : List ℕ) (flow steps : List ℤ) → Built (squares_edges f) g (λ e. get_or arc e 0) → Crossed f (λ e. get_or arc e 0) (λ a. get_or flow a (pos 0)) →
+    first + length arcs ≤ places f + places f → ((p : ℕ) → p < length arcs → get_or arc (first + p) 0 ≡ get_or arcs p 0) →
+    length flow ≡ g.arcs → length arcs ≤ length steps → ((p : ℕ) → nat_abs (get_or steps p (pos 0)) ≤ 1) → Addable arcs flow steps
 unfolding squares_edges
-addable_right f g n arc flow right below b c e q l m k = record {
+addable f g first arc arcs flow steps b c few part m k small = record {
   long = k;
-  listed = omega arith;
-  arcs = λ p i. omega (arith, b.within (0 + p) (omega arith));
-  small = λ p i. c.small (0 + p) (omega arith);
-  expected = e.right_small;
+  within = λ p i. rw (sym (part p i)) (omega (arith, b.within (first + p) (omega arith)));
+  small = λ p i. rw (sym (part p i)) (c.small (first + p) (omega arith));
+  expected = small;
 }
 
-pub addable_below : (f : Field) (g : Graph) (n : ℕ) (arc : List ℕ) (flow right below : List ℤ) → Built (squares_edges f) g (λ e. get_or arc e 0) → Crossed f (λ e. get_or arc e 0) (λ a. get_or flow a (pos 0)) → Expected f right below →
-    n ≡ places f → length arc ≡ places f + places f → length flow ≡ g.arcs → n ≤ length below → Addable n n arc flow below
-unfolding squares_edges
-addable_below f g n arc flow right below b c e q l m k = record {
-  long = k;
-  listed = omega arith;
-  arcs = λ p i. omega (arith, b.within (n + p) (omega arith));
-  small = λ p i. c.small (n + p) (omega arith);
-  expected = e.below_small;
-}
+-- the first edges, and those behind them
+pub addable_first : (f : Field) (g : Graph) (arc r d : List ℕ) (flow steps : List ℤ) → Built (squares_edges f) g (λ e. get_or arc e 0) → Crossed f (λ e. get_or arc e 0) (λ a. get_or flow a (pos 0)) →
+    arc ≡ r ++ d → length r ≤ places f → length flow ≡ g.arcs → length r ≤ length steps → ((p : ℕ) → nat_abs (get_or steps p (pos 0)) ≤ 1) → Addable r flow steps
+addable_first f g arc r d flow steps b c e few m k small =
+    addable f g 0 arc r flow steps b c (omega arith)
+    (λ p l. ap (λ (xs : List ℕ). get_or xs (0 + p) 0) e ∙ ap (λ (i : ℕ). get_or (r ++ d) i 0) (omega arith) ∙ get_or_append_left r d 0 p l) m k small
+
+pub addable_rest : (f : Field) (g : Graph) (arc r d : List ℕ) (flow steps : List ℤ) → Built (squares_edges f) g (λ e. get_or arc e 0) → Crossed f (λ e. get_or arc e 0) (λ a. get_or flow a (pos 0)) →
+    arc ≡ r ++ d → length r ≤ places f → length d ≤ places f → length flow ≡ g.arcs → length d ≤ length steps → ((p : ℕ) → nat_abs (get_or steps p (pos 0)) ≤ 1) → Addable d flow steps
+addable_rest f g arc r d flow steps b c e few rest m k small =
+    addable f g (length r) arc d flow steps b c (omega arith)
+    (λ p l. ap (λ (xs : List ℕ). get_or xs (length r + p) 0) e ∙ get_or-append-add r d p 0) m k small
 
 in_list : (w : ℕ) (xs : List ℤ) (x y : ℕ) → turns_in w xs x y ≡ get_or xs (y * w + x) (pos 0)
 unfolding turns_in
@@ -48,31 +51,35 @@ in_turns : (f : Field) (arc : ℕ → ℕ) (flow : ℕ → ℤ) (x y : ℕ) → 
 unfolding turns_from integral turn_steps
 in_turns f arc flow x y = refl
 
-pub least_from : (f : Field) (n : ℕ) (arc : List ℕ) (flow right below right' below' : List ℤ) → n ≡ places f → Crossed f (λ e. get_or arc e 0) (λ a. get_or flow a (pos 0)) → Expected f right below →
-    Addable n 0 arc flow right → Addable n n arc flow below → Added n 0 arc flow right right' → Added n n arc flow below below' → LeastSteps f right' below'
-least_from f n arc flow right below right' below' q c e ar ab r b = record {
-  right_small = added_small n 0 arc flow right right' r ar;
-  below_small = added_small n n arc flow below below' b ab;
+pub least_from : (f : Field) (arcs downs : List ℕ) (flow right below right' below' : List ℤ) → length arcs ≡ places f → length downs ≡ places f →
+    Crossed f (λ e. get_or (arcs ++ downs) e 0) (λ a. get_or flow a (pos 0)) → Expected f right below →
+    Addable arcs flow right → Addable downs flow below → Added arcs flow right right' → Added downs flow below below' → LeastSteps f right' below'
+least_from f arcs downs flow right below right' below' q o c e ar ab r b = record {
+  right_small = added_small arcs flow right right' r ar;
+  below_small = added_small downs flow below below' b ab;
   least = λ t h. c.least t (λ x y k l. h x y k l ∙ same x y k l);
 }
   where
+    arc : List ℕ
+    arc = arcs ++ downs
+
     right_step : (x y : ℕ) → suc x < f.wide → y < f.high → turns_in f.wide right' x y ≡ turns_right f x y +ℤ get_or flow (get_or arc (y * f.wide + x) 0) (pos 0)
     right_step x y k l =
         let p = y * f.wide + x in
-        let i : p < n = omega (arith, mul-add-lt y f.wide x f.high l (omega arith)) in
+        let i : p < places f = omega (arith, mul-add-lt y f.wide x f.high l (omega arith)) in
         let column : p % f.wide ≡ x = mod-mul-add y f.wide x (omega arith) in
         let line : p / f.wide ≡ y = div-mul-add y f.wide x (omega arith) in
         let there : HasRight f p = (omega (arith, column), omega (arith, line)) in
-        (in_list f.wide right' x y ∙ r.crossed p i ∙ ap₂ (λ (s : ℤ) (d : ℕ). s +ℤ get_or flow (get_or arc d 0) (pos 0)) (e.right_at p there ∙ ap₂ (λ (u v : ℕ). turns_right f u v) column line) (omega arith))
+        (in_list f.wide right' x y ∙ r.crossed p (omega arith) ∙ ap₂ (λ (s : ℤ) (d : ℕ). s +ℤ get_or flow d (pos 0)) (e.right_at p there ∙ ap₂ (λ (u v : ℕ). turns_right f u v) column line) (sym (get_or_append_left arcs downs 0 p (omega arith))))
 
     below_step : (x y : ℕ) → x < f.wide → suc y < f.high → turns_in f.wide below' x y ≡ turns_below f x y +ℤ get_or flow (get_or arc (places f + (y * f.wide + x)) 0) (pos 0)
     below_step x y k l =
         let p = y * f.wide + x in
-        let i : p < n = omega (arith, mul-add-lt y f.wide x f.high (omega arith) k) in
+        let i : p < places f = omega (arith, mul-add-lt y f.wide x f.high (omega arith) k) in
         let column : p % f.wide ≡ x = mod-mul-add y f.wide x k in
         let line : p / f.wide ≡ y = div-mul-add y f.wide x k in
         let there : HasBelow f p = omega (arith, line) in
-        (in_list f.wide below' x y ∙ b.crossed p i ∙ ap₂ (λ (s : ℤ) (d : ℕ). s +ℤ get_or flow (get_or arc d 0) (pos 0)) (e.below_at p there ∙ ap₂ (λ (u v : ℕ). turns_below f u v) column line) (omega arith))
+        (in_list f.wide below' x y ∙ b.crossed p (omega arith) ∙ ap₂ (λ (s : ℤ) (d : ℕ). s +ℤ get_or flow d (pos 0)) (e.below_at p there ∙ ap₂ (λ (u v : ℕ). turns_below f u v) column line) (sym (get_or-append-add arcs downs p 0) ∙ ap (λ (n : ℕ). get_or arc (n + p) 0) q))
 
     same : (x y : ℕ) → x < f.wide → y < f.high → integral (turns_in f.wide right') (turns_in f.wide below') x y ≡ turns_from f (λ e. get_or arc e 0) (λ a. get_or flow a (pos 0)) x y
     same x y k l =

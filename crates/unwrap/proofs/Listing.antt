@@ -1,22 +1,61 @@
 -- The edges of a field's squares, as loops list them.
-use Rattle.std.proofs.Common.{◌≡◌, ℕ, ◌+◌, ◌/◌, ◌%◌, ◌<◌, ◌≤◌, get_or, pos, Some, None, Option, unwrap_or, sym, ap, ◌∙◌, subst, ⊎_elim, mul_comm, add-one, arith}
+use Rattle.std.proofs.Common.{◌≡◌, ℕ, ◌+◌, ◌/◌, ◌%◌, ◌<◌, ◌≤◌, List, length, get_or, set, pos, Some, None, Option, unwrap_or, sym, ap, ◌∙◌, subst, ⊎_elim, mul_comm, add-one, arith, get_or-set_other, get_or-set_same}
 use Rattle.std.proofs.lemmas.Bool.{cases_eq}
 use Rattle.std.proofs.lemmas.Nat.{mod_below, div_below, div-add-mod'}
 use Rattle.std.specs.Option.{SomeIff}
 use Rattle.grid.specs.Field.{Field}
 use Rattle.squares.specs.Squares.{node, places, squares_edges}
 use Rattle.squares.proofs.Squares.{Joins, right_edge, below_edge}
-use Rattle.unwrap.specs.declared.list.Crossings.{Crossings}
-use Rattle.unwrap.specs.declared.list.Edge.{Edge}
-use Rattle.unwrap.specs.Listed.{Listed, Put}
+use Rattle.edges.specs.Ends.{no_edge}
+use Rattle.edges.specs.Lists.{edges_of}
+use Rattle.edges.specs.declared.edge.Edge.{Edge}
+use Rattle.unwrap.specs.Listed.{AreSquares, Crosses, IsEdge}
 
--- one edge more
-pub listed_more : (f : Field) (e u v price : ℕ) (edge : Edge) (l m : Crossings) → Listed f e l → Put e edge l m → Joins (squares_edges f) e u v price →
-    edge.from ≡ u → edge.to ≡ v → edge.price ≡ pos price → Listed f (e + 1) m
-listed_more f e u v price edge l m h p j a b c = record {
-  from_is = λ k q. ⊎_elim (λ s. subst (λ (i : ℕ). get_or m.from.now i 0 ≡ (squares_edges f).from i) (sym s) (p.from_e ∙ a ∙ sym j.from)) (λ s. p.from_other k s ∙ h.from_is k (omega arith)) (cases_eq k e);
-  to_is = λ k q. ⊎_elim (λ s. subst (λ (i : ℕ). get_or m.to.now i 0 ≡ (squares_edges f).to i) (sym s) (p.to_e ∙ b ∙ sym j.to)) (λ s. p.to_other k s ∙ h.to_is k (omega arith)) (cases_eq k e);
-  price_is = λ k q. ⊎_elim (λ s. subst (λ (i : ℕ). get_or m.price.now i (pos 0) ≡ (squares_edges f).cost i) (sym s) (p.price_e ∙ c ∙ sym j.cost)) (λ s. p.price_other k s ∙ h.price_is k (omega arith)) (cases_eq k e);
+-- an edge across a step is that of the list
+pub edge_is : (f : Field) (e u v price : ℕ) (edge : Edge) → Joins (squares_edges f) e u v price → Crosses u v price edge → IsEdge (squares_edges f) e edge
+unfolding squares_edges
+edge_is f e u v price edge j c = record {
+  from_is = c.from_is ∙ sym j.from;
+  to_is = c.to_is ∙ sym j.to;
+  cost_is = c.cost_is ∙ sym j.cost;
+  back_is = c.back_is ∙ sym j.cost;
+  limit_is = c.limit_is;
+  back_limit_is = c.back_limit_is;
+}
+
+pub crosses_at : (u v p u' v' p' : ℕ) (edge : Edge) → u ≡ u' → v ≡ v' → p ≡ p' → Crosses u v p edge → Crosses u' v' p' edge
+crosses_at u v p u' v' p' edge a b e c = record {
+  from_is = c.from_is ∙ a;
+  to_is = c.to_is ∙ b;
+  cost_is = c.cost_is ∙ ap pos e;
+  back_is = c.back_is ∙ ap pos e;
+  limit_is = c.limit_is;
+  back_limit_is = c.back_limit_is;
+}
+
+-- the first n edges are listed
+pub record ListedTo (f : Field) (n : ℕ) (edges : List Edge) : Type 0 where
+  pub is : (e : ℕ) → e < n → IsEdge (squares_edges f) e (get_or edges e no_edge)
+
+pub listed_none : (f : Field) (edges : List Edge) → ListedTo f 0 edges
+listed_none f edges = record { is = λ e l. absurd (omega arith) }
+
+pub listed_more : (f : Field) (n : ℕ) (edges : List Edge) (edge : Edge) → ListedTo f n edges → n < length edges → IsEdge (squares_edges f) n edge → ListedTo f (n + 1) (set edges n edge)
+listed_more f n edges edge h l i = record {
+  is = λ e k. ⊎_elim (λ q. subst (λ (j : ℕ). IsEdge (squares_edges f) j (get_or (set edges n edge) j no_edge)) (sym q) (rw (get_or-set_same edges n edge no_edge l) i))
+      (λ q. rw (get_or-set_other edges n e edge no_edge q) (h.is e (omega arith))) (cases_eq e n);
+}
+
+pub listed_all : (f : Field) (n : ℕ) (edges : List Edge) → n ≡ length edges → length edges ≡ places f + places f → ListedTo f n edges → AreSquares f (edges_of edges)
+unfolding squares_edges
+listed_all f n edges q long h = record {
+  count_is = long;
+  from_is = λ e l. (h.is e (omega arith)).from_is;
+  to_is = λ e l. (h.is e (omega arith)).to_is;
+  cost_is = λ e l. (h.is e (omega arith)).cost_is;
+  back_is = λ e l. (h.is e (omega arith)).back_is;
+  limit_is = λ e l. (h.is e (omega arith)).limit_is;
+  back_limit_is = λ e l. (h.is e (omega arith)).back_limit_is;
 }
 
 column_in : (f : Field) (p : ℕ) → 1 ≤ f.wide → p % f.wide < f.wide

@@ -10,7 +10,8 @@ use Rattle.network.specs.Graph.{Graph, Laws}
 use Rattle.network.specs.Sound.{State}
 use Rattle.flow.specs.Answer.{Solved}
 use Rattle.flow.specs.Start.{Balanced}
-use Rattle.flow.specs.declared.Answer.{Answer}
+use Rattle.std.specs.Prelude.{Result}
+use Rattle.flow.specs.declared.stuck.Stuck.{Stuck}
 use Rattle.edges.specs.Edges.{Built}
 use Rattle.squares.specs.Squares.{places, squares_edges, supply_of}
 use Rattle.squares.proofs.Start.{starts_empty}
@@ -27,7 +28,7 @@ balanced_of f n e fit q few h = record {
   few = omega (arith, units f n e q h, (supplies_few f fit).0);
 }
 
-pub crossed_of : (f : Field) (g : Graph) (arc : ℕ → ℕ) (e : ℕ → ℤ) (s : State) (place : ℕ → ℕ) (r : Answer) → Fit f → Built (squares_edges f) g arc → Laws g → g.nodes ≡ places f → places f ≤ 4096 →
+pub crossed_of : (f : Field) (g : Graph) (arc : ℕ → ℕ) (e : ℕ → ℤ) (s : State) (place : ℕ → ℕ) (r : Result (Unit {0}) Stuck) → Fit f → Built (squares_edges f) g arc → Laws g → g.nodes ≡ places f → places f ≤ 4096 →
     ((v : ℕ) → v < g.nodes → e v ≡ supply_of f v) → Solved g e s place r → Crossed f arc s.flow
 unfolding squares_edges
 crossed_of f g arc e s place r fit b w nodes few given done = record {

@@ -1,42 +1,45 @@
 -- What nodes supply, as a loop writes it.
-use Rattle.std.proofs.Common.{◌≡◌, ℕ, suc, pred, ◌+◌, ◌*◌, ◌/◌, ◌%◌, ◌<◌, ◌≤◌, List, length, get_or, set, ℤ, pos, ◌+ℤ◌, ◌*ℤ◌, neg_ℤ, nat_abs, sym, ap, ◌∙◌, subst, ap₂, ⊎_elim, arith, get_or-set_other, get_or-set_same}
+use Rattle.std.proofs.Common.{true, ◌≡◌, ℕ, suc, pred, ◌+◌, ◌*◌, ◌/◌, ◌%◌, ◌<◌, ◌≤◌, List, length, set, ℤ, pos, ◌+ℤ◌, ◌*ℤ◌, neg_ℤ, nat_abs, sym, ap, ◌∙◌, subst, ap₂, ⊎_elim, arith, get_or-set_other, get_or-set_same}
 use Rattle.std.proofs.lemmas.Int.{ints}
 use Rattle.std.proofs.lemmas.Bool.{cases_eq}
 use Rattle.sums.specs.Sum.{sum_ℤ}
 use Rattle.sums.proofs.Loop.{sum_ℤ_none, sum_ℤ_more}
 use Rattle.grid.specs.Field.{Field, round}
 use Rattle.grid.specs.Promise.{Fit}
+use Rattle.network.specs.Node.{no_node, excess_of}
+use Rattle.network.specs.declared.node.Node.{Node}
 use Rattle.squares.specs.Squares.{places, square_supply, supply_of}
 use Rattle.squares.proofs.Squares.{Corner, corner_no, first_corner, first_column, first_row}
 use Rattle.squares.proofs.Supply.{off_turns, square_supply_corner, square_supply_none, square_supply_small, supply_first, supply_later}
 use Rattle.laws.specs.Cost.{off, turn_steps}
 use Rattle.grid.specs.Square.{HasSquare}
 use Rattle.std.proofs.lemmas.Nat.{mod_below}
+use Rattle.std.specs.Prelude.{Option, Some, None, IfNone, IsSome}
 use Rattle.unwrap.proofs.Listing.{row_in}
 
--- so many squares are written, and this is what they supply in all
-pub record Supplying (f : Field) (xs : List ℤ) (v : ℕ) (total : ℤ) : Type 0 where
+-- the first so many nodes have what their squares supply, and this is what they supply in all
+pub record Supplying (f : Field) (xs : List Node) (v : ℕ) (total : ℤ) : Type 0 where
   pub is : total ≡ sum_ℤ v (square_supply f)
   pub small : nat_abs total ≤ v
-  pub before : (u : ℕ) → u < v → get_or xs u (pos 0) ≡ square_supply f u
+  pub before : (u : ℕ) → u < v → excess_of xs u ≡ square_supply f u
 
-pub supplying_none : (f : Field) (xs : List ℤ) → Supplying f xs 0 (pos 0)
+pub supplying_none : (f : Field) (xs : List Node) → Supplying f xs 0 (pos 0)
 supplying_none f xs = record { is = sym (sum_ℤ_none (square_supply f)); small = omega arith; before = λ u l. absurd (omega arith) }
 
-pub supplying_more : (f : Field) (xs : List ℤ) (v : ℕ) (total units then : ℤ) → Fit f → Supplying f xs v total → v < length xs → units ≡ square_supply f v → then ≡ total +ℤ units →
-    Supplying f (set xs v units) (v + 1) then
-supplying_more f xs v total units then fit s l e t = record {
+pub supplying_more : (f : Field) (xs : List Node) (v : ℕ) (total units then : ℤ) (node : Node) → Fit f → Supplying f xs v total → v < length xs → node.excess ≡ units → units ≡ square_supply f v → then ≡ total +ℤ units →
+    Supplying f (set xs v node) (v + 1) then
+supplying_more f xs v total units then node fit s l n e t = record {
   is = omega (arith, ints, s.is, sum_ℤ_more v (square_supply f));
   small = omega (arith, ints, s.small, square_supply_small f v fit);
-  before = λ u k. ⊎_elim (λ q. subst (λ (i : ℕ). get_or (set xs v units) i (pos 0) ≡ square_supply f i) (sym q) (get_or-set_same xs v units (pos 0) l ∙ e))
-      (λ q. get_or-set_other xs v u units (pos 0) q ∙ s.before u (omega arith)) (cases_eq u v);
+  before = λ u k. ⊎_elim (λ q. subst (λ (i : ℕ). excess_of (set xs v node) i ≡ square_supply f i) (sym q) (ap (λ (m : Node). m.excess) (get_or-set_same xs v node no_node l) ∙ n ∙ e))
+      (λ q. ap (λ (m : Node). m.excess) (get_or-set_other xs v u node no_node q) ∙ s.before u (omega arith)) (cases_eq u v);
 }
 
-pub supplying_all : (f : Field) (xs : List ℤ) (n : ℕ) (total outside : ℤ) → Supplying f xs n total → n ≡ places f → n ≡ length xs → 0 < n → outside ≡ neg_ℤ total →
-    (v : ℕ) → v < places f → get_or (set xs 0 outside) v (pos 0) ≡ supply_of f v
-supplying_all f xs n total outside s e m p o v l =
-    ⊎_elim (λ q. subst (λ (i : ℕ). get_or (set xs 0 outside) i (pos 0) ≡ supply_of f i) (sym q) (get_or-set_same xs 0 outside (pos 0) (omega arith) ∙ o ∙ ap neg_ℤ (s.is ∙ ap (λ (k : ℕ). sum_ℤ k (square_supply f)) e) ∙ sym (supply_first f)))
-    (λ q. get_or-set_other xs 0 v outside (pos 0) q ∙ s.before v (omega arith) ∙ sym (supply_later f v q)) (cases_eq v 0)
+pub supplying_all : (f : Field) (xs : List Node) (n : ℕ) (total outside : ℤ) (node : Node) → Supplying f xs n total → n ≡ places f → n ≡ length xs → 0 < n → node.excess ≡ outside → outside ≡ neg_ℤ total →
+    (v : ℕ) → v < places f → excess_of (set xs 0 node) v ≡ supply_of f v
+supplying_all f xs n total outside node s e m p k o v l =
+    ⊎_elim (λ q. subst (λ (i : ℕ). excess_of (set xs 0 node) i ≡ supply_of f i) (sym q) (ap (λ (m : Node). m.excess) (get_or-set_same xs 0 node no_node (omega arith)) ∙ k ∙ o ∙ ap neg_ℤ (s.is ∙ ap (λ (k : ℕ). sum_ℤ k (square_supply f)) e) ∙ sym (supply_first f)))
+    (λ q. ap (λ (m : Node). m.excess) (get_or-set_other xs 0 v node no_node q) ∙ s.before v (omega arith) ∙ sym (supply_later f v q)) (cases_eq v 0)
 
 -- a number that is neither in the first column nor in the first row is a square's
 pub corner_at : (f : Field) (v : ℕ) → 1 ≤ f.wide → v < places f → (v % f.wide ≡ 0 → ⊥) → (v / f.wide ≡ 0 → ⊥) → Corner f.wide f.high (v % f.wide) (v / f.wide)
@@ -62,3 +65,8 @@ square_there f v p c e =
     let column : p % f.wide ≡ pred (v % f.wide) = ap (λ (i : ℕ). i % f.wide) e ∙ first_column f.wide f.high v c in
     let line : p / f.wide ≡ pred (v / f.wide) = ap (λ (i : ℕ). i / f.wide) e ∙ first_row f.wide f.high v c in
     (omega (arith, column, c.x_some, c.x_below), omega (arith, line, c.y_some, c.y_below))
+
+-- what is there where it can't lack
+pub some_of : {A P : Type 0} (o : Option A) → IfNone o (P → ⊥) → P → IsSome o
+some_of None h p = absurd (h p)
+some_of (Some x) h p = λ i. true

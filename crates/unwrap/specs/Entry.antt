@@ -6,6 +6,7 @@ use Rattle.grid.specs.declared.field.Field.{Field as Held}
 use Rattle.grid.specs.Model.{field_of, Holds}
 use Rattle.grid.specs.Refusal.{number}
 use Rattle.grid.specs.Verdict.{Judged}
+use Rattle.grid.specs.declared.verdict.Lent.{Lent}
 use Rattle.grid.specs.Promise.{Half}
 use Rattle.laws.specs.Cost.{cost, Least}
 use Rattle.laws.specs.Promise.{AllComeBack, AllPriced}
@@ -57,3 +58,6 @@ pub record PutBack (f : Field) (cost_told : ℕ) (left : List ℤ) : Type 0 wher
 abbrev pub Answered : (w h t : ℕ) (ss rs bs : List ℕ) (room : List ℤ) → Done → (left : List ℤ) → Type 0
 Answered w h t ss rs bs room (Refused n) left = ((why : Refusal) × Judged w h t ss rs bs (length room) (Some why) × (n ≡ number why)) × (left ≡ room)
 Answered w h t ss rs bs room (Back c) left = Judged w h t ss rs bs (length room) None × ((f : Held) × Holds w h t ss rs bs f × PutBack (field_of f) c left)
+
+abbrev pub IsAnswered : Lent → (room : List ℤ) → Done → (left : List ℤ) → Type 0
+IsAnswered l room r left = Answered l.wide l.high l.turn l.seen.now l.right.now l.below.now room r left

@@ -10,17 +10,16 @@ pub record Crossed (f : Field) (arc : ℕ → ℕ) (flow : ℕ → ℤ) : Type 0
   pub small : (e : ℕ) → e < places f + places f → unsigned_abs (flow (arc e)) ≤ 4096
   pub least : (t : Turns) → ((x y : ℕ) → x < f.wide → y < f.high → t x y ≡ turns_from f arc flow x y) → Least f t
 
--- to each of the first n steps what goes across it is added, from the given edge on
-pub record Added (n first : ℕ) (arc : List ℕ) (flow before after : List ℤ) : Type 0 where
-  pub crossed : (p : ℕ) → p < n → slice_index_or after p (pos 0) ≡ slice_index_or before p (pos 0) +ℤ slice_index_or flow (slice_index arc (first + p)) (pos 0)
-  pub rest : (p : ℕ) → n ≤ p → slice_index_or after p (pos 0) ≡ slice_index_or before p (pos 0)
+-- to each step is added what goes across it, along the arc of its number
+pub record Added (arcs : List ℕ) (flow before after : List ℤ) : Type 0 where
+  pub crossed : (p : ℕ) → p < length arcs → slice_index_or after p (pos 0) ≡ slice_index_or before p (pos 0) +ℤ slice_index_or flow (slice_index arcs p) (pos 0)
+  pub rest : (p : ℕ) → length arcs ≤ p → slice_index_or after p (pos 0) ≡ slice_index_or before p (pos 0)
 
 -- flows that can be added
-pub record Addable (n first : ℕ) (arc : List ℕ) (flow steps : List ℤ) : Type 0 where
-  pub long : n ≤ length steps
-  pub listed : first + n ≤ length arc
-  pub arcs : (p : ℕ) → p < n → slice_index arc (first + p) < length flow
-  pub small : (p : ℕ) → p < n → unsigned_abs (slice_index_or flow (slice_index arc (first + p)) (pos 0)) ≤ 4096
+pub record Addable (arcs : List ℕ) (flow steps : List ℤ) : Type 0 where
+  pub long : length arcs ≤ length steps
+  pub within : (p : ℕ) → p < length arcs → slice_index arcs p < length flow
+  pub small : (p : ℕ) → p < length arcs → unsigned_abs (slice_index_or flow (slice_index arcs p) (pos 0)) ≤ 4096
   pub expected : (p : ℕ) → unsigned_abs (slice_index_or steps p (pos 0)) ≤ 1
 
 -- steps that can be followed, and whose turns cost least

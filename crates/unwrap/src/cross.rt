@@ -1,12 +1,13 @@
 // Steps that differ from what is expected by what goes across them.
+ghost use Rattle.std.specs.Prelude.{length};
 ghost use Rattle.unwrap.specs.Settled.{Added, Addable};
 
-// Adds to each of the first n steps what goes across it, where the edges of these steps begin with `first`.
-pub fn add_flows(n: usize, first: usize, arc: &[usize], flow: &[i64], steps: &mut [i64])
-    requires { Addable n first arc.now flow.now steps.old }
-    ensures { Added n first arc.now flow.now steps.old steps.new }
+// Adds to the first steps what goes across each, along the arcs of its edges.
+pub fn add_flows(arcs: &[usize], flow: &[i64], steps: &mut [i64])
+    requires { Addable arcs.now flow.now steps.old }
+    ensures { Added arcs.now flow.now steps.old steps.new }
 {
-    for p in 0..n {
-        steps[p] += flow[arc[first + p]];
+    for (p, arc) in arcs.iter().enumerate() {
+        steps[p] += flow[*arc];
     }
 }

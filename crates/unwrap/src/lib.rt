@@ -5,7 +5,7 @@ ghost use Rattle.std.specs.Prelude.{◌≡◌, ◌*◌, length};
 ghost use Rattle.grid.specs.Field.{field_in};
 ghost use Rattle.grid.specs.Model.{field_of};
 ghost use Rattle.grid.specs.Verdict.{verdict};
-ghost use Rattle.unwrap.specs.Entry.{RefusedSays, BackSays, FirstSays, LeastSays, NothingSays, FoundSays, PutBack, Answered};
+ghost use Rattle.unwrap.specs.Entry.{RefusedSays, BackSays, FirstSays, LeastSays, NothingSays, FoundSays, PutBack, IsAnswered};
 
 mod cross;
 mod least;
@@ -34,15 +34,12 @@ fn put_least(field: &Field, room: &mut [i64]) -> u64
 {
     let steps = least_steps(field);
     follow(field.wide(), field.high(), &steps, room);
-    match cost(field, room) {
-        Some(cost) => cost,
-        None => unreachable(),
-    }
+    cost(field, room).unwrap()
 }
 
 // Takes a field and puts turns back, or turns it away with the room as it was.
 fn answer(lent: &Lent<'_, '_, '_>, room: &mut [i64]) -> Done
-    ensures { Answered lent.now.wide lent.now.high lent.now.turn lent.now.seen.now lent.now.right.now lent.now.below.now room.old result room.new }
+    ensures { IsAnswered lent.now room.old result room.new }
 {
     match Field::take(lent, room.len() as u64) {
         Err(refusal) => Done::Refused(refusal.number()),

@@ -1,11 +1,13 @@
 // What the nodes of the network between squares supply.
-ghost use Rattle.std.specs.Prelude.{◌≡◌, ℕ, ◌<◌, ◌≤◌, length, pos, neg_ℤ, slice_index_or};
+ghost use Rattle.std.specs.Prelude.{◌≡◌, ℕ, ◌<◌, length, neg_ℤ};
 ghost use Rattle.grid.specs.Model.{field_of};
 ghost use Rattle.grid.specs.Square.{off_by};
+ghost use Rattle.network.specs.Node.{excess_of};
 ghost use Rattle.squares.specs.Squares.{places, square_supply, supply_of};
 
 use grid::field::Field;
 use grid::square::Off;
+use network::Node;
 
 // A square that is off by a turn more lacks a unit, and one that is off by a turn less has one.
 fn units(off: Off) -> i64
@@ -24,28 +26,21 @@ fn square_supply(field: &Field, v: usize) -> i64
     ensures { result ≡ square_supply (field_of field.now) v }
 {
     let wide = field.wide();
-    if v % wide == 0 {
+    if v % wide == 0 || v / wide == 0 {
         return 0;
     }
-    if v / wide == 0 {
-        return 0;
-    }
-    match field.square(v - wide - 1) {
-        Some(off) => units(off),
-        None => unreachable(),
-    }
+    units(field.square(v - wide - 1).unwrap())
 }
 
-// Writes what each node supplies: each square what it is off by, and the outside what makes up for all of them.
-pub fn supplies(field: &Field, excess: &mut [i64])
-    requires { length excess.old ≡ places (field_of field.now) }
-    ensures { (v : ℕ) → v < places (field_of field.now) → slice_index_or excess.new v (pos 0) ≡ supply_of (field_of field.now) v }
+// Gives each node what it supplies: each square what it is off by, and the outside what makes up for all of them.
+pub fn supplies(field: &Field, nodes: &mut [Node])
+    requires { length nodes.old ≡ places (field_of field.now) }
+    ensures { (v : ℕ) → v < places (field_of field.now) → excess_of nodes.new v ≡ supply_of (field_of field.now) v }
 {
     let mut total = 0;
-    for v in 0..excess.len() {
-        let units = square_supply(field, v);
-        excess[v] = units;
-        total += units;
+    for (v, node) in nodes.iter_mut().enumerate() {
+        node.excess = square_supply(field, v);
+        total += node.excess;
     }
-    excess[0] = -total;
+    nodes[0].excess = -total;
 }

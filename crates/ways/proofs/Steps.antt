@@ -21,7 +21,7 @@ cheap : (c p q : ℤ) (n : ℕ) → nat_abs c ≤ 1073741824 → nat_abs p ≤ 2
 cheap c p q n h i j k = omega (arith, ints)
 
 -- a sum of signed numbers as the code has it
-pub sum_fits : (l r c : ℤ) → nat_abs l ≤ 2 ^ 60 + 2 ^ 58 → nat_abs c ≤ 2 ^ 60 + 2 ^ 30 → r ≡ c → to_z w64 (of_z w64 (to_z w64 (of_z w64 l) +ℤ to_z w64 (of_z w64 r))) ≡ (l +ℤ c)
+sum_fits : (l r c : ℤ) → nat_abs l ≤ 2 ^ 60 + 2 ^ 58 → nat_abs c ≤ 2 ^ 60 + 2 ^ 30 → r ≡ c → to_z w64 (of_z w64 (to_z w64 (of_z w64 l) +ℤ to_z w64 (of_z w64 r))) ≡ (l +ℤ c)
 sum_fits l r c h i e = omega (arith, ints)
 
 module _ (g : Graph) (w : Laws g) (s : State) (o : Sound g s) (hand upto : ℕ) (t : Tree) (i : Searching g s hand upto t) where
@@ -254,6 +254,10 @@ module _ (g : Graph) (w : Laws g) (s : State) (o : Sound g s) (u a : ℕ) (t t' 
   -- no reached node gets a lower label
   pub offer_node : s.flow a <ℤ g.limit a → (d : ℤ) → d ≡ (t.level +ℤ reduced_cost g s.flow s.potential a) → t.place (g.head a) < t.reached → t.label (g.head a) ≤ℤ d
   offer_node takes d e l = omega (arith, ints, e, o.priced a arc takes, i.low (g.head a) (w.arc a arc).head l)
+
+  -- the label by the arc, as the code adds it up
+  pub along : (r : ℤ) → r ≡ reduced_cost g s.flow s.potential a → to_z w64 (of_z w64 (to_z w64 (of_z w64 t.level) +ℤ to_z w64 (of_z w64 r))) ≡ (t.level +ℤ reduced_cost g s.flow s.potential a)
+  along r e = sum_fits t.level r _ (level_fits g w s o u a t i u h) (reduced_small g w s o u a t i a arc) e
 
   module _ (n : ℕ) (n_is : n ≡ g.nodes) (takes : s.flow a <ℤ g.limit a) (d : ℤ) (d_is : d ≡ (t.level +ℤ reduced_cost g s.flow s.potential a))
       (idle : Idle t (g.head a) d → t' ≡ t) (taken : Nearer t (g.head a) d → Taken n s.excess t t' (g.head a) a d) where

@@ -33,7 +33,7 @@ up_some (pos n) h = refl
 up_some (negsuc n) h = absurd (omega (arith, ints))
 
 -- the positive and the negative parts of terms that add up to 0
-parts : (n : ℕ) (e : ℕ → ℤ) → sum_ℤ n e ≡ (pos (sum_to n (λ v. up (e v))) -ℤ pos (sum_to n (λ v. up (neg_ℤ (e v)))))
+pub parts : (n : ℕ) (e : ℕ → ℤ) → sum_ℤ n e ≡ (pos (sum_to n (λ v. up (e v))) -ℤ pos (sum_to n (λ v. up (neg_ℤ (e v)))))
 unfolding sum_ℤ sum_to
 parts zero e = refl
 parts (suc n) e = omega (arith, ints, parts n e, split (e n))

@@ -1,8 +1,9 @@
 -- A search for the cheapest ways from a source: nodes reached, nodes on the frontier, and the arcs by which they were met.
-use Rattle.std.specs.Prelude.{◌≡◌, ℕ, ◌+◌, ◌^◌, ◌<◌, ◌≤◌, ◌⊎◌, length, ℤ, pos, ◌+ℤ◌, ◌≤ℤ◌, ◌<ℤ◌, ◌≢◌, slice_index, slice_index_or}
+use Rattle.std.specs.Prelude.{◌≡◌, ℕ, ◌+◌, ◌^◌, ◌<◌, ◌≤◌, ◌⊎◌, length, ℤ, pos, ◌+ℤ◌, ◌≤ℤ◌, ◌<ℤ◌, ◌≢◌}
 use Rattle.network.specs.Graph.{Graph, reduced_cost}
 use Rattle.network.specs.Sound.{State}
-use Rattle.ways.specs.declared.Search.{Search}
+use Rattle.ways.specs.Mark.{label_of, via_of, place_of, node_at, Arranged}
+use Rattle.ways.specs.declared.search.Search.{Search}
 
 -- all nodes stand in `order`, each at its `place`: first those reached, then the frontier up to `seen`, then the others
 pub record Tree : Type 0 where
@@ -20,10 +21,10 @@ pub record Tree : Type 0 where
 abbrev pub tree : Search → Tree
 tree s =
     record {
-      label = λ v. slice_index_or s.label.now v (pos 0);
-      via = λ v. slice_index s.via.now v;
-      place = λ v. slice_index s.place.now v;
-      order = λ k. slice_index s.order.now k;
+      label = label_of s.marks.now;
+      via = via_of s.marks.now;
+      place = place_of s.marks.now;
+      order = node_at s.order.now;
       source = s.source;
       reached = s.reached;
       seen = s.seen;
@@ -33,36 +34,24 @@ tree s =
     }
 
 -- the slices of a search have an element for each node
-pub record Roomy (n : ℕ) (s : Search) : Type 0 where
-  pub label : length s.label.now ≡ n
-  pub via : length s.via.now ≡ n
-  pub place : length s.place.now ≡ n
-  pub order : length s.order.now ≡ n
+abbrev pub Roomy : ℕ → Search → Type 0
+Roomy n s = length s.order.now ≡ n
 
--- the same but for `seen`, `place` and `order`; these two are as long as before
+-- it works on the slices that it was lent
+pub record SameSlices (s s' : Search) : Type 0 where
+  pub marks : s'.marks.ghost_name ≡ s.marks.ghost_name
+  pub order : s'.order.ghost_name ≡ s.order.ghost_name
+  pub len : length s'.order.now ≡ length s.order.now
+
+-- the same but for `seen` and the places
 pub record Kept (s s' : Search) : Type 0 where
-  pub label : s'.label.now ≡ s.label.now
-  pub via : s'.via.now ≡ s.via.now
-  pub place : length s'.place.now ≡ length s.place.now
-  pub order : length s'.order.now ≡ length s.order.now
+  pub label : (v : ℕ) → label_of s'.marks.now v ≡ label_of s.marks.now v
+  pub via : (v : ℕ) → via_of s'.marks.now v ≡ via_of s.marks.now v
   pub source : s'.source ≡ s.source
   pub reached : s'.reached ≡ s.reached
   pub level : s'.level ≡ s.level
   pub bound : s'.bound ≡ s.bound
   pub target : s'.target ≡ s.target
-
--- `place` and `order` say the same
-pub record Arranged (n : ℕ) (place order : ℕ → ℕ) : Type 0 where
-  pub placed : (v : ℕ) → v < n → place v < n
-  pub there : (v : ℕ) → v < n → order (place v) ≡ v
-  pub ordered : (k : ℕ) → k < n → order k < n
-  pub back : (k : ℕ) → k < n → place (order k) ≡ k
-
--- the nodes at places i and j have changed places
-pub record Exchanged (n : ℕ) (place order place' : ℕ → ℕ) (i j : ℕ) : Type 0 where
-  pub here : place' (order i) ≡ j
-  pub there : place' (order j) ≡ i
-  pub others : (v : ℕ) → v < n → (place v ≢ i) → (place v ≢ j) → place' v ≡ place v
 
 -- node v is on the frontier, and no other node has come there
 pub record Met (n : ℕ) (place : ℕ → ℕ) (seen reached : ℕ) (place' : ℕ → ℕ) (seen' v : ℕ) : Type 0 where

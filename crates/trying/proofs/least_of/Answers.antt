@@ -5,5 +5,4 @@ pub loop-code-init : goal.loop-code-init
 loop-code-init c = first_least _ _ c.cost_of-least.ensures
 
 pub loop-code-preserved : goal.loop-code-preserved
-loop-code-preserved c =
-    lesser_least _ _ c.loop-code.least c.cost_of.result _ c.loop-code.invariant c.cost_of.ensures c.lesser-least.ensures.least.0 c.lesser-least.ensures.least.1 c.lesser-least.ensures.one
+loop-code-preserved c = lesser_least _ _ c.loop-code.least c.cost_of.result _ c.loop-code.invariant c.cost_of.ensures c.min-least.ensures

@@ -9,10 +9,10 @@ pub pow-requires : goal.pow-requires
 pow-requires c = omega (arith, few_codes c.places-places.result (omega arith))
 
 pub least_of-requires : goal.least_of-requires
-least_of-requires c = (omega arith, omega (arith, some_code c.places-places.result))
+least_of-requires c = record { few = omega arith; some = omega (arith, some_code c.places-places.result) }
 
-pub returns : goal.returns
-returns c =
+pub returns-clause-least : goal.returns-clause-least
+returns-clause-least c =
     let f = c.args.field.now in
     let all : c.pow.result ≡ 5 ^ (f.wide * f.high) = c.pow.ensures ∙ ap (λ (n : ℕ). 5 ^ n) c.places-places.ensures in
-    (omega arith, all_coded (field_of f) c.least_of.result f.wide_fits.0 (subst (λ (n : ℕ). LeastOf (λ k. cost (field_of f) (turns_of f.wide k)) n c.least_of.result) all c.least_of.ensures))
+    all_coded (field_of f) c.least_of.result f.wide_fits.0 (subst (λ (n : ℕ). LeastOf (λ k. cost (field_of f) (turns_of f.wide k)) n c.least_of.result) all c.least_of.ensures)

@@ -5,7 +5,7 @@ use Rattle.grid.proofs.square.round_of.Goals as goal
 
 pub returns : goal.returns
 returns c =
-    off_by_sign c.args.turn c.args.a c.args.b c.args.c c.args.d _ _ _ c.requires.0 c.requires.1.0 c.requires.1.1.0 c.requires.1.1.1
+    off_by_sign c.args.turn c.args.a c.args.b c.args.c c.args.d _ _ _ c.requires.a c.requires.b c.requires.c c.requires.d
     (omega (arith, ints, c.expected.ensures.is, c.expected-2.ensures.is))
     (omega (arith, ints, c.expected-3.ensures.is, c.expected-4.ensures.is))
     c.compared.ensures

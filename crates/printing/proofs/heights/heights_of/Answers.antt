@@ -1,22 +1,22 @@
-use Rattle.std.proofs.Common.{[], ◌∷◌, ◌++◌, get_or, ℤ, pos, vec_items, ap, ◌∙◌, arith, w64, SFits, rules}
+use Rattle.std.proofs.Common.{ℤ, pos, ◌+ℤ◌, ◌*ℤ◌, ◌++◌, ◌∷◌, [], vec_items, ap, ◌∙◌, rules, w64, SFits}
+use Rattle.std.specs.Int.{saturate_to_bits}
 use Rattle.std.proofs.lemmas.Int.{to_z-of_z}
-use Rattle.printing.proofs.Turned.{heights_none, heights_no_more, heights_step}
+use Rattle.std.specs.Iterator.Adapters.{zip_first, zip_second}
+use Rattle.std.specs.Slice.Iter.{iter_rest}
+use Rattle.std.proofs.lemmas.Slice.Zip.{Zip-more, either_empty_from_Zip}
+use Rattle.printing.proofs.Turned.{heights_stop, heights_step}
 use Rattle.printing.proofs.heights.heights_of.Goals as goal
-use Rattle.printing.proofs.heights.heights_of.Goals.{then-loop-i-test+else-i-turns, else-loop-i-test}
 
-pub loop-i-preserved : goal.loop-i-preserved
-loop-i-preserved c =
-    let f : SFits w64 (get_or c.args.turns.now c.loop-i.i (pos 0)) = search rules in (
-      heights_step c.args.turn c.args.seen.now c.args.turns.now (vec_items c.loop-i.heights) (vec_items c.push.new.self) _ c.loop-i.i c.height.result _ c.loop-i-test.true c.if-i-turns.true
-          (to_z-of_z w64 (get_or c.args.turns.now c.loop-i.i (pos 0)) f) c.height.ensures
-          (c.in_ok-push.ensures.items ∙ ap (λ (z : ℤ). vec_items c.loop-i.heights ++ (z ∷ [])) (to_z-of_z w64 c.height.result (record { sfits = c.height.type_inv }))) c.loop-i.invariant.0,
-      omega (arith, c.loop-i-test.true),
-      omega (arith, c.if-i-turns.true),
-    )
+pub loop-s-preserved : goal.loop-s-preserved
+loop-s-preserved c =
+    let s = c.loop-s.s-iterator in
+    let t = c.next.new.self in
+    let more = Zip-more s t c.next.result _ c.in-Some.is c.next.ensures.steps in
+    let fits : SFits w64 c.in-Some.k.now = search rules in
+    heights_step c.args.turn c.in-Some.s.now c.in-Some.k.now c.height.result (iter_rest (zip_first s)) (iter_rest (zip_first t)) (iter_rest (zip_second s)) (iter_rest (zip_second t)) (vec_items c.loop-s.heights) (vec_items c.push.new.self) _
+    more.0 more.1 (c.height.ensures ∙ ap (λ (z : ℤ). saturate_to_bits 63 (pos c.in-Some.s.now +ℤ (z *ℤ pos c.args.turn))) (to_z-of_z w64 c.in-Some.k.now fits)) (c.in_ok-push.ensures.items ∙ ap (λ (z : ℤ). vec_items c.loop-s.heights ++ (z ∷ [])) (to_z-of_z w64 c.height.result (record { sfits = c.height.type_inv }))) c.loop-s.invariant
 
 pub returns : goal.returns
 returns c =
-    elim c.loop-i-test.branch [
-      | then-loop-i-test+else-i-turns w ↦ heights_no_more c.args.turn c.args.seen.now c.args.turns.now (vec_items c.loop-i.heights) _ c.loop-i.i w.if-i-turns.false c.loop-i.invariant.0
-      | else-loop-i-test w ↦ heights_none c.args.turn c.args.seen.now c.args.turns.now (vec_items c.loop-i.heights) _ c.loop-i.i w.loop-i-test.false c.loop-i.invariant.0
-    ]
+    let s = c.loop-s.s-iterator in
+    heights_stop c.args.turn (iter_rest (zip_first s)) (iter_rest (zip_second s)) (vec_items c.loop-s.heights) _ (either_empty_from_Zip s c.next.new.self c.next.result c.in-None.is c.next.ensures.steps) c.loop-s.invariant

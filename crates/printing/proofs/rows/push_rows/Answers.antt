@@ -1,11 +1,13 @@
-use Rattle.std.proofs.Common.{string_bytes, arith}
-use Rattle.printing.proofs.Lines.{rows_end, rows_step}
+use Rattle.std.proofs.Common.{string_bytes}
+use Rattle.printing.proofs.Lines.{rows_none, drop_none, rows_more, rest_more}
 use Rattle.printing.proofs.rows.push_rows.Goals as goal
 
-pub loop-left-preserved : goal.loop-left-preserved
-loop-left-preserved c =
-    rows_step (string_bytes c.loop-left.out) (string_bytes c.push_row.new.out) (string_bytes c.push_str.new.self) _ c.args.wide c.loop-left.left c.loop-left.rest.now
-    c.parted.result.0.now c.parted.result.1.now (omega arith) c.parted.ensures.front c.parted.ensures.back c.in_ok-push_row.ensures c.in_ok-push_str.ensures.bytes c.loop-left.invariant
+pub loop-y-init : goal.loop-y-init
+loop-y-init c = record { printed = rows_none (string_bytes c.args.out.now) c.args.wide c.args.list.now; left = drop_none c.args.wide c.args.list.now }
 
-pub returns : goal.returns
-returns c = rows_end (string_bytes c.loop-left.out) _ c.args.wide c.loop-left.left c.loop-left.rest.now (omega arith) c.loop-left.invariant
+pub loop-y-preserved : goal.loop-y-preserved
+loop-y-preserved c = record {
+  printed = rows_more _ (string_bytes c.push_row.new.out) (string_bytes c.loop-y.out) (string_bytes c.writeln.new.self) c.args.wide c.loop-y._y c.args.list.now c.loop-y.rest.now c.parted.result.0.now c.loop-y.invariant.printed
+      c.loop-y.invariant.left c.parted.ensures.front c.in_ok-push_row.ensures c.in_ok-writeln.ensures.bytes;
+  left = rest_more c.args.wide c.loop-y._y c.args.list.now c.loop-y.rest.now c.parted.result.1.now c.loop-y.invariant.left c.parted.ensures.back;
+}

@@ -1,12 +1,13 @@
-use Rattle.std.proofs.Common.{pred, string_bytes, arith}
+use lib.Utf8.{encode}
+use Rattle.std.proofs.Common.{pred, string_bytes, ap, ◌∙◌, arith}
 use Rattle.grid.specs.Model.{field_of}
-use Rattle.printing.proofs.Squares.{row_ends, row_step}
+use Rattle.printing.proofs.Squares.{row_ends, row_step, encode-sign}
 use Rattle.printing.proofs.signs.push_sign_row.Goals as goal
 
 pub loop-x-preserved : goal.loop-x-preserved
 loop-x-preserved c =
-    row_step (string_bytes c.loop-x.out) (string_bytes c.push_str.new.self) c.sign_at.result.now _ (field_of c.args.field.now) c.args.y c.loop-x.x (pred c.args.field.now.wide) (omega (arith, c.loop-x-test.true, c.wide-x-end.ensures))
-    c.sign_at.ensures c.in_ok-push_str.ensures.bytes c.loop-x.invariant
+    row_step (string_bytes c.loop-x.out) (string_bytes c.push.new.self) _ _ (field_of c.args.field.now) c.args.y c.loop-x.x (pred c.args.field.now.wide) (omega (arith, c.loop-x-test.true, c.wide-x-end.ensures))
+    (ap encode c.sign_at.ensures ∙ encode-sign _) c.in_ok-push.ensures.bytes c.loop-x.invariant
 
 pub returns : goal.returns
 returns c =

@@ -1,24 +1,44 @@
-use Rattle.std.proofs.Common.{sym, ap, ◌∙◌, arith}
-use Rattle.std.specs.Option.{option_map}
+use Rattle.std.proofs.Common.{◌≡◌, ◌∷◌, ◌∙◌, ◌+◌, ◌≤◌, ap, length, arith, rules, inl}
 use Rattle.text.specs.Pieces.{lines}
 use Rattle.text.specs.Draft.{notes}
-use Rattle.text.specs.Document.{contents}
+use Rattle.text.specs.Document.{contents, stopped_at}
+use Rattle.text.specs.declared.pieces.Mark.TheVariants.{Newline}
+use Rattle.text.proofs.Cuts.{length_pieces}
 use Rattle.text.proofs.Reader.{read_ends, read_stops, read_more}
 use Rattle.text.proofs.document.read.Goals as goal
 
-pub returns-in_default-2 : goal.returns-in_default-2
-returns-in_default-2 c =
-    read_stops c.loop-line.number (notes c.loop-line.draft) (lines c.loop-line.rest.now) (lines c.in-Some.after.now) c.in-Some.line.now _ c.in-Some.ensures.0
-    (sym (ap (option_map notes) c.in_default-2.is) ∙ c.in_ok-next.ensures) c.loop-line.invariant.0
+pub loop-number-init : goal.loop-number-init
+loop-number-init c =
+    let start : c.into_iter-number-iterator.result.count ≡ 0 = search rules in
+    let whole : c.into_iter-number-iterator.result.iter.0.now ≡ c.args.text.now = search rules in
+    let all : length (lines c.into_iter-number-iterator.result.iter.0.now) ≤ length c.args.text.now = rw whole (length_pieces Newline c.args.text.now) in
+    record {
+      can = (tt, tt, inl (omega arith));
+      ends = search rules;
+      fits = omega arith;
+      read = search rules;
+    }
 
-pub loop-line-preserved : goal.loop-line-preserved
-loop-line-preserved c = (
-  read_more c.loop-line.number (notes c.loop-line.draft) (notes c.in-Some-2.next) (lines c.loop-line.rest.now) (lines c.in-Some.after.now) c.in-Some.line.now c.in-Some.ensures.0
-      (sym (ap (option_map notes) c.in-Some-2.is) ∙ c.in_ok-next.ensures) ∙ c.loop-line.invariant.0,
-  omega (arith, c.in-Some.ensures.1, c.loop-line.invariant.1),
-)
+pub returns-in-Err : goal.returns-in-Err
+returns-in-Err c =
+    let line : c.in-Some.number ≡ c.loop-number.number-iterator.count = search rules in
+    let first : lines c.loop-number.number-iterator.iter.0.now ≡ c.in-Some.line.now ∷ lines c.next.new.self.iter.0.now = search rules in
+    let stop : c.at.result ≡ stopped_at c.in-Err.fault c.loop-number.number-iterator.count = cc in
+    rw stop (read_stops c.loop-number.number-iterator.count (notes c.loop-number.draft) _ (lines c.next.new.self.iter.0.now) c.in-Some.line.now _ c.in-Err.fault first c.in-Err.ensures c.loop-number.invariant.read)
+
+pub loop-number-preserved : goal.loop-number-preserved
+loop-number-preserved c =
+    let first : lines c.loop-number.number-iterator.iter.0.now ≡ c.in-Some.line.now ∷ lines c.next.new.self.iter.0.now = search rules in
+    let more : c.next.new.self.count ≡ c.loop-number.number-iterator.count + 1 = search rules in
+    let fits : c.next.new.self.count + length (lines c.next.new.self.iter.0.now) ≤ length c.args.text.now = omega (arith, ap length first, c.loop-number.invariant.fits) in
+    record {
+      can = (tt, tt, inl (omega arith));
+      ends = search rules;
+      fits = fits;
+      read = rw more (read_more c.loop-number.number-iterator.count (notes c.loop-number.draft) _ (lines c.next.new.self.iter.0.now) c.in-Some.line.now c.in-Ok.next first c.in-Ok.ensures ∙ c.loop-number.invariant.read);
+    }
 
 pub returns : goal.returns
 returns c =
-    read_ends c.loop-line.number (notes c.loop-line.draft) (lines c.loop-line.rest.now) _ (contents c.in_ok-finished.field-0) c.in_default.ensures c.loop-line.invariant.0
+    read_ends c.loop-number.number-iterator.count (notes c.loop-number.draft) (lines c.loop-number.number-iterator.iter.0.now) _ (contents c.in_ok-finished.field-0) (search rules) c.loop-number.invariant.read
     c.in_ok-finished.ensures

@@ -4,8 +4,10 @@ use Rattle.text.specs.Draft.{notes}
 use Rattle.text.specs.Document.{read_from, reading}
 use Rattle.text.proofs.document.read.Given as goal
 
-abbrev pub invariant-loop-line : goal.invariant-loop-line
-invariant-loop-line l = (read_from l.number (notes l.draft) (lines l.rest) ≡ reading l.text) × (l.number + length l.rest ≤ length l.text)
-
-abbrev pub decreases-loop-line : goal.decreases-loop-line
-decreases-loop-line l = length l.rest
+abbrev pub invariant-loop-number : goal.invariant-loop-number
+invariant-loop-number l = record {
+  can : (goal.iterator-loop-number).can_next l.number-iterator;
+  ends : (goal.iterator-loop-number).is_finite l.number-iterator;
+  fits : l.number-iterator.count + length (lines l.number-iterator.iter.0.now) ≤ length l.text;
+  read : read_from l.number-iterator.count (notes l.draft) (lines l.number-iterator.iter.0.now) ≡ reading l.text;
+}

@@ -1,70 +1,43 @@
-use Rattle.std.proofs.Common.{◌≡◌, length, arith, rules}
+use Rattle.std.proofs.Common.{◌≡◌, List, ℕ, length, get_or, pos, ap, ◌∙◌, subst, arith, rules}
 use Rattle.grid.specs.Model.{field_of}
-use Rattle.network.specs.Graph.{graph}
+use Rattle.network.specs.Network.{graph}
+use Rattle.network.specs.declared.network.Network.{Network}
+use Rattle.unwrap.specs.Settled.{Crossed}
 use Rattle.unwrap.proofs.Fitting.{few_places}
-use Rattle.unwrap.proofs.Crossing.{addable_right, addable_below, least_from}
+use Rattle.unwrap.proofs.Crossing.{addable_first, addable_rest, least_from}
 use Rattle.unwrap.proofs.least.cross_squares.Goals as goal
 
-pub slice_bounds-across-end : goal.slice_bounds-across-end
-slice_bounds-across-end c =
-    let few = c.requires.arcs in
-    search rules
-
-pub slice_bounds-excess-end : goal.slice_bounds-excess-end
-slice_bounds-excess-end c =
-    let few = few_places c.args.field.now in
-    let is = c.places-n.ensures in
-    search rules
-
-pub slice_bounds-potential-end : goal.slice_bounds-potential-end
-slice_bounds-potential-end c =
-    let few = few_places c.args.field.now in
-    let is = c.places-n.ensures in
-    search rules
-
-pub slice_bounds-label-end : goal.slice_bounds-label-end
-slice_bounds-label-end c =
-    let few = few_places c.args.field.now in
-    let is = c.places-n.ensures in
-    search rules
-
-pub slice_bounds-via-end : goal.slice_bounds-via-end
-slice_bounds-via-end c =
-    let few = few_places c.args.field.now in
-    let is = c.places-n.ensures in
-    search rules
-
-pub slice_bounds-place-end : goal.slice_bounds-place-end
-slice_bounds-place-end c =
-    let few = few_places c.args.field.now in
-    let is = c.places-n.ensures in
-    search rules
-
-pub slice_bounds-order-end : goal.slice_bounds-order-end
-slice_bounds-order-end c =
-    let few = few_places c.args.field.now in
-    let is = c.places-n.ensures in
-    search rules
-
-pub add_both-requires : goal.add_both-requires
-add_both-requires c =
+pub add_flows-requires : goal.add_flows-requires
+add_flows-requires c =
     let f = c.args.field.now in
-    let right-long : length c.args.steps.now.right ≡ 4096 = c.requires.long.0 in
-    let below-long : length c.args.steps.now.below ≡ 4096 = c.requires.long.1 in
-    record {
-      right = addable_right (field_of f) (graph c.args.net.now) c.places-n.result c.args.arc.now c.settle_squares.new.flow.flow.now c.args.steps.now.right c.args.steps.now.below c.requires.built c.settle_squares.ensures.crossed c.requires.expected
-          c.places-n.ensures c.requires.edges c.settle_squares.ensures.fitting.flow (omega (arith, few_places f, c.places-n.ensures));
-      below = addable_below (field_of f) (graph c.args.net.now) c.places-n.result c.args.arc.now c.settle_squares.new.flow.flow.now c.args.steps.now.right c.args.steps.now.below c.requires.built c.settle_squares.ensures.crossed c.requires.expected
-          c.places-n.ensures c.requires.edges c.settle_squares.ensures.fitting.flow (omega (arith, few_places f, c.places-n.ensures));
-    }
+    let flow = c.settle_squares.new.flow in
+    let right_long : length c.args.steps.now.right ≡ 4096 = search rules in
+    addable_first (field_of f) (graph c.args.net) c.args.arc_of.now c.split_at.result.0.now c.split_at.result.1.now flow.flow.now c.args.steps.now.right c.requires.built c.settle_squares.ensures.crossed
+    c.split_at.ensures.by_index.0 (omega (arith, c.split_at.ensures.front_len, c.places-n.ensures)) (flow.flow_len ∙ ap (λ (m : Network). (graph m).arcs) c.settle_squares.ensures.same.net)
+    (omega (arith, c.split_at.ensures.front_len, c.places-n.ensures, few_places f, right_long)) c.requires.expected.right_small
+
+pub add_flows-requires-2 : goal.add_flows-requires-2
+add_flows-requires-2 c =
+    let f = c.args.field.now in
+    let flow = c.settle_squares.new.flow in
+    let below_long : length c.args.steps.now.below ≡ 4096 = search rules in
+    addable_rest (field_of f) (graph c.args.net) c.args.arc_of.now c.split_at.result.0.now c.split_at.result.1.now flow.flow.now c.args.steps.now.below c.requires.built c.settle_squares.ensures.crossed
+    c.split_at.ensures.by_index.0 (omega (arith, c.split_at.ensures.front_len, c.places-n.ensures)) (omega (arith, c.split_at.ensures.back_len, c.places-n.ensures, c.requires.edges)) (flow.flow_len ∙ ap (λ (m : Network). (graph m).arcs) c.settle_squares.ensures.same.net)
+    (omega (arith, c.split_at.ensures.back_len, c.places-n.ensures, few_places f, c.requires.edges, below_long)) c.requires.expected.below_small
 
 pub returns : goal.returns
 returns c =
     let f = c.args.field.now in
-    let right-long : length c.args.steps.now.right ≡ 4096 = c.requires.long.0 in
-    let below-long : length c.args.steps.now.below ≡ 4096 = c.requires.long.1 in
-    let to_right = addable_right (field_of f) (graph c.args.net.now) c.places-n.result c.args.arc.now c.settle_squares.new.flow.flow.now c.args.steps.now.right c.args.steps.now.below c.requires.built c.settle_squares.ensures.crossed c.requires.expected
-    c.places-n.ensures c.requires.edges c.settle_squares.ensures.fitting.flow (omega (arith, few_places f, c.places-n.ensures)) in
-    let to_below = addable_below (field_of f) (graph c.args.net.now) c.places-n.result c.args.arc.now c.settle_squares.new.flow.flow.now c.args.steps.now.right c.args.steps.now.below c.requires.built c.settle_squares.ensures.crossed c.requires.expected
-    c.places-n.ensures c.requires.edges c.settle_squares.ensures.fitting.flow (omega (arith, few_places f, c.places-n.ensures)) in
-    least_from (field_of f) c.places-n.result c.args.arc.now c.settle_squares.new.flow.flow.now c.args.steps.now.right c.args.steps.now.below _ _ c.places-n.ensures c.settle_squares.ensures.crossed c.requires.expected to_right to_below c.add_both.ensures.right c.add_both.ensures.below
+    let flow = c.settle_squares.new.flow in
+    let right_long : length c.args.steps.now.right ≡ 4096 = search rules in
+    let below_long : length c.args.steps.now.below ≡ 4096 = search rules in
+    let right = addable_first (field_of f) (graph c.args.net) c.args.arc_of.now c.split_at.result.0.now c.split_at.result.1.now flow.flow.now c.args.steps.now.right c.requires.built c.settle_squares.ensures.crossed
+    c.split_at.ensures.by_index.0 (omega (arith, c.split_at.ensures.front_len, c.places-n.ensures)) (flow.flow_len ∙ ap (λ (m : Network). (graph m).arcs) c.settle_squares.ensures.same.net)
+    (omega (arith, c.split_at.ensures.front_len, c.places-n.ensures, few_places f, right_long)) c.requires.expected.right_small in
+    let below = addable_rest (field_of f) (graph c.args.net) c.args.arc_of.now c.split_at.result.0.now c.split_at.result.1.now flow.flow.now c.args.steps.now.below c.requires.built c.settle_squares.ensures.crossed
+    c.split_at.ensures.by_index.0 (omega (arith, c.split_at.ensures.front_len, c.places-n.ensures)) (omega (arith, c.split_at.ensures.back_len, c.places-n.ensures, c.requires.edges)) (flow.flow_len ∙ ap (λ (m : Network). (graph m).arcs) c.settle_squares.ensures.same.net)
+    (omega (arith, c.split_at.ensures.back_len, c.places-n.ensures, few_places f, c.requires.edges, below_long)) c.requires.expected.below_small in
+    let crossed = subst (λ (xs : List ℕ). Crossed (field_of f) (λ e. get_or xs e 0) (λ a. get_or flow.flow.now a (pos 0))) c.split_at.ensures.by_index.0 c.settle_squares.ensures.crossed in
+    least_from (field_of f) c.split_at.result.0.now c.split_at.result.1.now flow.flow.now c.args.steps.now.right c.args.steps.now.below _ _
+    (omega (arith, c.split_at.ensures.front_len, c.places-n.ensures)) (omega (arith, c.split_at.ensures.back_len, c.places-n.ensures, c.requires.edges))
+    crossed c.requires.expected right below c.add_flows.ensures c.add_flows-2.ensures

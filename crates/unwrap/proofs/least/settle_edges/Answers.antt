@@ -1,104 +1,77 @@
-use Rattle.std.proofs.Common.{◌≡◌, ℕ, ◌+◌, ◌*◌, length, get_or, sym, ◌∙◌, subst, arith, rules}
+use Rattle.std.proofs.Common.{◌≡◌, ℕ, ◌+◌, ◌*◌, length, ◌∙◌, sym, ap, subst, arith, rules}
+use Rattle.edges.specs.Ends.{from_of, to_of}
+use Rattle.edges.specs.Lists.{edges_of}
+use Rattle.edges.specs.Slots.{Between}
 use Rattle.grid.specs.Model.{field_of}
-use Rattle.edges.specs.Lists.{edges_of, arcs_of}
 use Rattle.unwrap.proofs.Fitting.{few_places}
-use Rattle.edges.specs.Grouped.{FitEdges, grouped}
-use Rattle.edges.specs.Placed.{Placed}
-use Rattle.edges.proofs.Grouping.{grouped_is_network}
-use Rattle.unwrap.proofs.Building.{fit_of, built_of, count_of, part_long, part_long_ℤ, laws_at, built_at}
+use Rattle.unwrap.proofs.Building.{fit_of, count_of, count_few, made_formed, made_built, part_long}
 use Rattle.unwrap.proofs.least.settle_edges.Goals as goal
 
-pub slice_bounds-tail-end : goal.slice_bounds-tail-end
-slice_bounds-tail-end c =
-    let few = few_places c.args.field.now in
-    let is = c.places-n.ensures in
+twice : (n : ℕ) → n + n ≡ n * 2
+twice n = omega arith
+
+pub overflow_add-ends : goal.overflow_add-ends
+overflow_add-ends c = omega (arith, count_few c.args.field.now c.args.edges.now c.requires.squares)
+
+pub slice_bounds-arcs-end : goal.slice_bounds-arcs-end
+slice_bounds-arcs-end c =
+    let few = count_few c.args.field.now c.args.edges.now c.requires.squares in
     search rules
 
-pub slice_bounds-head-end : goal.slice_bounds-head-end
-slice_bounds-head-end c =
-    let few = few_places c.args.field.now in
-    let is = c.places-n.ensures in
+pub slice_bounds-arc_of-end : goal.slice_bounds-arc_of-end
+slice_bounds-arc_of-end c =
+    let few = count_few c.args.field.now c.args.edges.now c.requires.squares in
     search rules
 
-pub slice_bounds-pair-end : goal.slice_bounds-pair-end
-slice_bounds-pair-end c =
-    let few = few_places c.args.field.now in
-    let is = c.places-n.ensures in
+pub slice_bounds-arcs-end-2 : goal.slice_bounds-arcs-end-2
+slice_bounds-arcs-end-2 c =
+    let few = count_few c.args.field.now c.args.edges.now c.requires.squares in
+    sym (part_long 16384 (length c.args.edges.now + length c.args.edges.now) c.default-arcs.result (omega (arith, few)))
+
+pub slice_bounds-arc_of-end-2 : goal.slice_bounds-arc_of-end-2
+slice_bounds-arc_of-end-2 c =
+    let few = count_few c.args.field.now c.args.edges.now c.requires.squares in
     search rules
 
-pub slice_bounds-cost-end : goal.slice_bounds-cost-end
-slice_bounds-cost-end c =
-    let few = few_places c.args.field.now in
-    let is = c.places-n.ensures in
+pub invariant_of-lists : goal.invariant_of-lists
+invariant_of-lists c =
+    let few = count_few c.args.field.now c.args.edges.now c.requires.squares in
+    let n = length c.args.edges.now in
+    record { room = part_long 16384 (n + n) c.default-arcs.result (omega (arith, few)) ∙ twice n ∙ ap (λ (k : ℕ). k * 2) (sym (part_long {A = ℕ} 8192 n 0 few)) }
+
+pub group-requires-clause-room : goal.group-requires-clause-room
+group-requires-clause-room c =
+    let few = count_few c.args.field.now c.args.edges.now c.requires.squares in
     search rules
 
-pub slice_bounds-limit-end : goal.slice_bounds-limit-end
-slice_bounds-limit-end c =
-    let few = few_places c.args.field.now in
-    let is = c.places-n.ensures in
-    search rules
+pub cross_squares-requires-clause-edges : goal.cross_squares-requires-clause-edges
+cross_squares-requires-clause-edges c =
+    let few = count_few c.args.field.now c.args.edges.now c.requires.squares in
+    c.group.ensures.len ∙ part_long {A = ℕ} 8192 (length c.args.edges.now) 0 few ∙ c.requires.squares.count_is ∙ count_of (field_of c.args.field.now)
 
-pub slice_bounds-arc-end : goal.slice_bounds-arc-end
-slice_bounds-arc-end c =
-    let few = few_places c.args.field.now in
-    let is = c.places-n.ensures in
-    search rules
-
-pub slice_bounds-first-end : goal.slice_bounds-first-end
-slice_bounds-first-end c =
-    let few = few_places c.args.field.now in
-    let is = c.places-n.ensures in
-    search rules
-
-pub slice_bounds-next-end : goal.slice_bounds-next-end
-slice_bounds-next-end c =
-    let few = few_places c.args.field.now in
-    let is = c.places-n.ensures in
-    search rules
-
-pub group-requires : goal.group-requires
-group-requires c =
+pub invariant_of-group : goal.invariant_of-group
+invariant_of-group c =
     let f = c.args.field.now in
-    let n = c.places-n.result in
+    let e = c.args.edges.now in
+    let fit = fit_of f (edges_of e) c.requires.squares in
+    record { few = fit.few_edges; between = subst (Between (from_of e) (to_of e) (length e)) (sym c.places-n.ensures) fit.between }
+
+pub invariant_of-cross_squares : goal.invariant_of-cross_squares
+invariant_of-cross_squares c =
+    let f = c.args.field.now in
     let few = few_places f in
     let is = c.places-n.ensures in
-    let fit = fit_of f (edges_of c.args.edges.now) c.requires.squares in
-    let count : length c.args.edges.now.from.now ≡ n + n = c.requires.squares.count_is ∙ count_of (field_of f) ∙ omega arith in
-    record {
-      even = c.requires.even;
-      few = fit.few_edges;
-      between = λ i l. (omega (arith, fit.between i l, part_long 4096 n (omega arith)), omega (arith, fit.between i l, part_long 4096 n (omega arith)));
-      room = record { tail = part_long 16384 (4 * n) (omega arith) ∙ omega arith; head = part_long 16384 (4 * n) (omega arith) ∙ omega arith; pair = part_long 16384 (4 * n) (omega arith) ∙ omega arith; cost = part_long_ℤ 16384 (4 * n) (omega arith) ∙ omega arith; limit = part_long_ℤ 16384 (4 * n) (omega arith) ∙ omega arith; arc = part_long 8192 (n + n) (omega arith) ∙ omega arith };
-      long = part_long 4097 (n + 1) (omega arith) ∙ omega (arith, part_long 4096 n (omega arith));
-    }
+    let nodes : length c.group.new.first ≡ c.places-n.result + 1 = search rules in
+    let count = count_few f c.args.edges.now c.requires.squares in
+    let arcs = c.group.new.arcs.room ∙ ap (λ (k : ℕ). k * 2) (c.group.ensures.len ∙ part_long {A = ℕ} 8192 (length c.args.edges.now) 0 count) in
+    record { formed = made_formed f c.args.edges.now c.places-n.result c.group.new.first c.group.new.arcs c.places-n.ensures c.requires.squares nodes arcs c.group.ensures.first c.group.ensures.placed }
 
-pub cross_squares-requires : goal.cross_squares-requires
-cross_squares-requires c =
+pub cross_squares-requires-clause-built : goal.cross_squares-requires-clause-built
+cross_squares-requires-clause-built c =
     let f = c.args.field.now in
-    let n = c.places-n.result in
     let few = few_places f in
     let is = c.places-n.ensures in
-    let es = edges_of c.args.edges.now in
-    let fit = fit_of f es c.requires.squares in
-    let count : length c.args.edges.now.from.now ≡ n + n = c.requires.squares.count_is ∙ count_of (field_of f) ∙ omega arith in
-    let next-long = part_long 4096 n (omega arith) in
-    let room = c.group.ensures.room in
-    let placed = subst (λ (k : ℕ). Placed es k es.count (arcs_of c.group.new.arcs)) next-long c.group.ensures.placed in
-    let made = grouped_is_network es n (λ v. get_or c.group.new.first v 0) (arcs_of c.group.new.arcs) (subst (FitEdges es) (sym is) fit) (λ v l. c.group.ensures.first v (omega arith)) placed in
-    let net = grouped n es (λ v. get_or c.group.new.first v 0) (arcs_of c.group.new.arcs) in
-    record {
-      formed = record {
-        first_length = c.group.auto.first ∙ part_long 4097 (n + 1) (omega arith);
-        head_length = room.head ∙ sym room.tail;
-        pair_length = room.pair ∙ sym room.tail;
-        cost_length = room.cost ∙ sym room.tail;
-        limit_length = room.limit ∙ sym room.tail;
-        laws = laws_at net _ room.tail made.0;
-      };
-      nodes = is;
-      built = built_of (field_of f) es _ (λ e. get_or c.group.new.arcs.arc.now e 0) c.requires.squares (built_at es net (λ e. get_or c.group.new.arcs.arc.now e 0) _ room.tail made.1);
-      edges = room.arc ∙ count ∙ omega arith;
-      arcs = omega (arith, room.tail);
-      expected = c.requires.expected;
-      long = c.requires.long;
-    }
+    let nodes : length c.group.new.first ≡ c.places-n.result + 1 = search rules in
+    let count = count_few f c.args.edges.now c.requires.squares in
+    let arcs = c.group.new.arcs.room ∙ ap (λ (k : ℕ). k * 2) (c.group.ensures.len ∙ part_long {A = ℕ} 8192 (length c.args.edges.now) 0 count) in
+    made_built f c.args.edges.now c.places-n.result c.group.new.first c.group.new.arcs c.places-n.ensures c.requires.squares nodes arcs c.group.ensures.first c.group.ensures.placed

@@ -1,15 +1,18 @@
-use Rattle.std.proofs.Common.{◌+◌, ◌*◌, ◌/◌, ◌%◌, ◌∙◌, arith}
-use Rattle.std.proofs.lemmas.Int.{ints}
+use Rattle.std.proofs.Common.{◌≡◌, ◌+◌, ◌/◌, ◌%◌, ◌∙◌}
 use Rattle.grid.specs.Model.{field_of}
-use Rattle.unwrap.proofs.Listing.{price_told, row_in}
+use Rattle.squares.specs.Squares.{node}
+use Rattle.unwrap.proofs.Listing.{price_told, row_in, edge_is, crosses_at, joins_below}
 use Rattle.unwrap.proofs.list.edge_below.Goals as goal
 
 pub returns : goal.returns
 returns c =
     let f = c.args.field.now in
+    let p = c.args.place in
     let w = c.wide-wide.ensures in
     let h = c.high-high.ensures in
     let a = c.node.ensures in
     let b = c.node-2.ensures in
-    let told = c.unwrap_or-price.ensures ∙ price_told _ c.price_below.result _ c.price_below.ensures (row_in (field_of f) c.args.place f.wide_fits.0 c.requires) in
-    record { from = cc; to = cc; price = omega (arith, ints, told, f.below_fits (c.args.place / f.wide * f.wide + c.args.place % f.wide)) }
+    let from : c.node.result ≡ node f.wide f.high (p % f.wide) (p / f.wide + 1) = cc in
+    let to : c.node-2.result ≡ node f.wide f.high (p % f.wide + 1) (p / f.wide + 1) = cc in
+    let told = c.unwrap_or-price.ensures ∙ price_told _ c.price_below.result _ c.price_below.ensures (row_in (field_of f) p f.wide_fits.0 c.requires) in
+    edge_is (field_of f) _ _ _ _ c.crossing.result (joins_below (field_of f) p f.wide_fits.0 c.requires) (crosses_at _ _ _ _ _ _ c.crossing.result from to told c.crossing.ensures)

@@ -1,6 +1,6 @@
-use Rattle.std.proofs.Common.{get_or, ◌∙◌, arith}
+use Rattle.std.proofs.Common.{get_or, arith}
 use Rattle.grid.specs.Model.{field_of}
-use Rattle.network.specs.Graph.{graph}
+use Rattle.network.specs.Network.{graph}
 use Rattle.network.specs.Sound.{state}
 use Rattle.unwrap.proofs.Fitting.{field_fit, few_places}
 use Rattle.unwrap.proofs.Settling.{balanced_of, crossed_of}
@@ -9,23 +9,17 @@ use Rattle.unwrap.proofs.settle.settle_squares.Goals as goal
 pub solve-requires : goal.solve-requires
 solve-requires c =
     let f = c.args.field.now in
-    let n = c.args.net.now.nodes in
     record {
-      formed = c.requires.formed;
-      fitting = record {
-        flow = c.requires.fitting.flow;
-        excess = c.supplies.auto.excess ∙ c.requires.fitting.excess;
-        potential = c.requires.fitting.potential;
-      };
       room = c.requires.room;
-      balanced = balanced_of (field_of f) n _ (field_fit f) c.requires.nodes (few_places f) (λ v l. c.supplies.ensures v (omega (arith, c.requires.nodes)));
+      balanced = balanced_of (field_of f) _ _ (field_fit f) c.requires.nodes (few_places f) (λ v l. c.supplies.ensures v (omega (arith, c.requires.nodes)));
     }
 
 pub returns : goal.returns
 returns c =
     let f = c.args.field.now in
+    let same = c.solve.ensures.same in
     record {
-      fitting = c.solve.ensures.fitting;
-      crossed = crossed_of (field_of f) (graph c.args.net.now) (λ e. get_or c.args.arc.now e 0) _ (state c.solve.new.flow) _ c.solve.result (field_fit f) c.requires.built c.requires.formed.laws c.requires.nodes (few_places f)
+      same = record { net = same.net; flow = same.flow; nodes = same.nodes };
+      crossed = crossed_of (field_of f) (graph c.args.flow.now.net) (λ e. get_or c.args.arc_of.now e 0) _ (state c.solve.new.flow) _ c.solve.result (field_fit f) c.requires.built c.args.flow.now.net.formed.laws c.requires.nodes (few_places f)
           (λ v l. c.supplies.ensures v (omega (arith, c.requires.nodes))) c.solve.ensures.solved;
     }

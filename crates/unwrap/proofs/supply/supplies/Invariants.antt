@@ -3,4 +3,4 @@ use Rattle.unwrap.proofs.Supplying.{Supplying}
 use Rattle.unwrap.proofs.supply.supplies.Given as goal
 
 abbrev pub invariant-loop-v : goal.invariant-loop-v
-invariant-loop-v l = Supplying (field_of l.field) l.excess l.v l.total
+invariant-loop-v l = Supplying (field_of l.field) l.nodes l.v l.total

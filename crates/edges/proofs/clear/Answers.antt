@@ -1,6 +1,0 @@
-use Rattle.std.proofs.Common.{arith, get_or-set_other, get_or-set_same}
-use Rattle.std.proofs.lemmas.Bool.{cases_eq}
-use Rattle.edges.proofs.clear.Goals as goal
-
-pub loop-x-preserved : goal.loop-x-preserved
-loop-x-preserved c = λ k h. grind (arith, get_or-set_same, get_or-set_other, cases_eq k c.loop-x.x-index, c.loop-x.invariant k, c.loop-x.auto.xs)

@@ -1,7 +1,0 @@
-use Rattle.std.proofs.Common.{◌≡◌, ◌^◌, pos, ◌≤ℤ◌}
-use Rattle.sums.specs.Sum.{sum_ℤ}
-use Rattle.network.specs.Graph.{graph, gains}
-use Rattle.formed.proofs.gains_few.Given as goal
-
-abbrev pub invariant-loop-a : goal.invariant-loop-a
-invariant-loop-a l = (l.sum ≡ sum_ℤ l.a (gains (graph l.net))) × (l.sum ≤ℤ pos (2 ^ 59)) × (pos 0 ≤ℤ l.sum)
