@@ -1,5 +1,5 @@
 -- Networks that are built from a list of edges. Assumes nothing: these are definitions.
-use Rattle.std.specs.Prelude.{◌≡◌, ℕ, ◌^◌, ◌<◌, ◌≤◌, cond, ◌⊎◌, ℤ, pos, ◌+ℤ◌, ◌-ℤ◌, ◌≤ℤ◌, ◌==◌, ◌≢◌, unsigned_abs}
+use Rattle.std.specs.Prelude.{◌≡◌, ℕ, ◌^◌, ◌<◌, ◌≤◌, if◌then◌else◌, ◌⊎◌, ℤ, pos, ◌+ℤ◌, ◌-ℤ◌, ◌≤ℤ◌, ◌==◌, ◌≢◌, unsigned_abs}
 use Rattle.sums.specs.Sum.{sum_ℤ}
 use Rattle.network.specs.Graph.{Graph, Laws, IsFlow, outflow}
 
@@ -40,7 +40,7 @@ pub record Built (es : Edges) (g : Graph) (arc : ℕ → ℕ) : Type 0 where
 
 -- what edge e takes out of node v at a flow of so much along it: a loop takes nothing
 abbrev pub taken : Edges → ℕ → ℕ → ℤ → ℤ
-taken es v e z = cond (es.from e == v) z (pos 0) -ℤ cond (es.to e == v) z (pos 0)
+taken es v e z = (if es.from e == v then z else pos 0) -ℤ (if es.to e == v then z else pos 0)
 
 -- sums over the arcs of a built network are sums over its edges, and so is what leaves a node
 abbrev pub ArcsAreEdges : Type 0

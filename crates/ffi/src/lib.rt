@@ -10,7 +10,7 @@ ghost use Rattle.ffi.specs.Answered.{answered};
 use unwrap::{Done, put_back};
 
 // Puts turns back as `put_back` does: answers 0 and leaves what the turns cost in `cost`, or answers the number of the refusal with
-// all that was lent as it was.
+// all that was lent as it was. A number and a `cost` beside it, since that is what C can read.
 #[unsafe(no_mangle)]
 pub extern "C" fn mulantsy_put_back(
     wide: u64,

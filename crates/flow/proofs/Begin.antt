@@ -14,7 +14,7 @@ use Rattle.network.specs.Graph.{Graph, Laws, gains, outflow, IsFlow, Priced}
 use Rattle.network.specs.Sound.{State, Sound, left, Later}
 use Rattle.network.proofs.Points.{cases_lt_ℤ, lt_yes, lt_no, unit_forward, unit_backward}
 use Rattle.ways.proofs.Walk.{up_none, up_some, parts}
-use Rattle.formed.proofs.Partial.{sum_more}
+use Rattle.sums.proofs.Loop.{sum_ℤ_more}
 use Rattle.flow.specs.Answer.{Outcome, Solved}
 use Rattle.flow.specs.declared.stuck.Stuck.{Stuck}
 use Rattle.flow.specs.Start.{started, started_out, Balanced, Started}
@@ -60,7 +60,7 @@ pub taken_here : (g : Graph) (a v : ℕ) (nodes : List Node) (m : Node) (before 
     → excess_of nodes v ≡ (before -ℤ started_out g v a)
     → g.tail a < length nodes → m.excess ≡ (excess_of nodes (g.tail a) -ℤ started g a)
     → excess_of (slice_set nodes (g.tail a) m) v ≡ (before -ℤ started_out g v (a + 1))
-taken_here g a v nodes m before h l e = omega (arith, ints, h, taken nodes (g.tail a) v m (started g a) l e, sum_more a (λ b. if nat_eq (g.tail b) v then started g b else pos 0))
+taken_here g a v nodes m before h l e = omega (arith, ints, h, taken nodes (g.tail a) v m (started g a) l e, sum_ℤ_more a (λ b. if nat_eq (g.tail b) v then started g b else pos 0))
 
 module _ (g : Graph) (w : Laws g) where
   -- the first flow of an arc: its own limit, less the limit of its pair, by which of them costs less than nothing

@@ -63,6 +63,7 @@ fn least_room(flow: &Flow, search: &Search) -> i64
     let net = flow.net;
     let mut v = search.target;
     let mut least = lesser(flow.nodes[search.source].excess, -flow.nodes[v].excess);
+    // From node to node, back to the source.
     while v != search.source {
         let a = search.marks[v].via;
         least = lesser(least, flow.room(a));
@@ -86,6 +87,7 @@ fn send(flow: &mut Flow, search: &Search, amount: i64)
 {
     let net = flow.net;
     let mut v = search.target;
+    // From node to node, back to the source.
     while v != search.source {
         let a = search.marks[v].via;
         flow.push(a, amount);

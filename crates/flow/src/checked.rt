@@ -13,7 +13,8 @@ use formed::{Lists, Malformed};
 use network::{Flow, Network, Node};
 use ways::{Mark, Search};
 
-/// The slices that the solver works on: a flow by arcs, the nodes, which have the supplies in excess, and what a search needs.
+/// The slices that the solver works on: a flow by arcs, the nodes, which have the supplies in excess, and what a search needs. Marks and
+/// order are of a search and not of the nodes: one search serves many flows.
 #[derive(Drop)]
 pub struct Slices<'a> {
     pub flow: &'a mut [i64],

@@ -24,7 +24,9 @@ fn settle(flow: &mut Flow, search: &mut Search) -> Result<(), Stuck>
     ensures answer { Outcome (graph flow.old.net) (state flow.new) (tree search.new).place result }
 {
     let net = flow.net;
+    // Nodes by number: each way that is sent along changes the whole flow.
     for source in 0..net.nodes() {
+        // Until there is no more to send.
         while flow.nodes[source].excess > 0 {
             augment(flow, search, source)?;
         }

@@ -35,11 +35,10 @@ fn fill(flow: &mut Flow)
         (state flow.new).excess v ≡ ((state flow.old).excess v -ℤ started_out (graph flow.old.net) v (graph flow.old.net).arcs) }
 {
     let net = flow.net;
-    for a in 0..net.arcs.len() {
+    for (a, arc) in net.arcs.iter().enumerate() {
         let x = first_flow(&net, a);
-        let tail = net.arcs[a].tail;
         flow.flow[a] = x;
-        flow.nodes[tail].excess -= x;
+        flow.nodes[arc.tail].excess -= x;
     }
 }
 

@@ -8,14 +8,6 @@ use Rattle.sums.proofs.Sum.{sum_ℤ_split, sum_ℤ_nonneg}
 use Rattle.network.specs.Graph.{Graph, IsArc, gains}
 use Rattle.network.proofs.Points.{cases_lt_ℤ, lt_yes, lt_no}
 
-pub sum_none : (f : ℕ → ℤ) → sum_ℤ 0 f ≡ pos 0
-unfolding sum_ℤ
-sum_none f = refl
-
-pub sum_more : (k : ℕ) (f : ℕ → ℤ) → sum_ℤ (k + 1) f ≡ (sum_ℤ k f +ℤ f k)
-unfolding sum_ℤ
-sum_more k f = rw (add-one k) refl
-
 gains_some : (g : Graph) (a : ℕ) → IsArc g a → pos 0 ≤ℤ gains g a
 gains_some g a h = elim (cases_lt_ℤ (g.cost a) (pos 0)) [
   | inl l ↦ omega (arith, ints, cond-true (lt_z (g.cost a) (pos 0)) (g.limit a) (pos 0) (lt_yes (g.cost a) (pos 0) l), h.allowed)

@@ -1,7 +1,7 @@
 // Networks from any lent lists, tested first.
 #![tactic(auto)]
 
-ghost use Rattle.std.specs.Prelude.{◌≡◌, ℕ, ◌+◌, ◌-◌, ◌^◌, ◌<◌, ◌≤◌, ◌↔◌, length, pos, ◌≤ℤ◌, IsTrue, IfOk, OnErr};
+ghost use Rattle.std.specs.Prelude.{◌≡◌, ℕ, ◌+◌, ◌-◌, ◌^◌, ◌<◌, ◌≤◌, ◌↔◌, length, pos, ◌≤ℤ◌, if◌then◌else◌, int_lt, IsTrue, IfOk, OnErr};
 ghost use Rattle.network.specs.Graph.{IsArc, WellFormed, gains};
 ghost use Rattle.sums.specs.Sum.{sum_ℤ};
 ghost use Rattle.formed.specs.Lists.{graph};
@@ -20,6 +20,17 @@ pub struct Lists<'a> {
 #[derive(Clone, Copy, PartialEq, Eq, Debug)]
 pub struct Malformed;
 
+// What an arc takes if it costs less than nothing.
+fn gain(arc: &Arc) -> i64
+    requires allowed { pos 0 ≤ℤ arc.now.limit }
+    requires limited { arc.now.limit ≤ℤ pos (2 ^ 60) }
+    ensures value { result ≡ (if int_lt arc.now.cost (pos 0) then arc.now.limit else pos 0) }
+    ensures low { pos 0 ≤ℤ result }
+    ensures high { result ≤ℤ pos (2 ^ 60) }
+{
+    if arc.cost < 0 { arc.limit } else { 0 }
+}
+
 impl<'a> Lists<'a> {
     // How many nodes they tell of.
     fn nodes(&self) -> usize
@@ -34,6 +45,8 @@ impl<'a> Lists<'a> {
     {
         self.first.is_sorted() && self.first.last().is_some_and(|&end| end <= self.arcs.len())
     }
+
+    // Arcs are asked for by number here, each with its bound as a clause: a type of such numbers would have to name its network.
 
     // Whether arc `a` lies among those of its tail.
     fn grouped(&self, a: usize) -> bool
@@ -83,26 +96,14 @@ impl<'a> Lists<'a> {
         (0..self.arcs.len()).all(|a| self.arc_formed(a))
     }
 
-    // What arc `a` takes if it costs less than nothing.
-    fn gain(&self, a: usize) -> i64
-        requires arc { a < (graph self.now).arcs }
-        requires formed { IsArc (graph self.now) a }
-        ensures value { result ≡ gains (graph self.now) a }
-        ensures low { pos 0 ≤ℤ result }
-        ensures high { result ≤ℤ pos (2 ^ 60) }
-    {
-        let arc = self.arcs[a];
-        if arc.cost < 0 { arc.limit } else { 0 }
-    }
-
     // Whether arcs that cost less than nothing take few enough in all.
     fn gains_few(&self) -> bool
         requires { (a : ℕ) → a < (graph self.now).arcs → IsArc (graph self.now) a }
         ensures { IsTrue result ↔ (sum_ℤ (graph self.now).arcs (gains (graph self.now)) ≤ℤ pos (2 ^ 59)) }
     {
         let mut sum = 0;
-        for a in 0..self.arcs.len() {
-            sum += self.gain(a);
+        for arc in self.arcs {
+            sum += gain(arc);
             if sum > 1 << 59 {
                 return false;
             }

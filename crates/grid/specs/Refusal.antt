@@ -1,5 +1,5 @@
--- What is turned away: each case's number and place. Assumes nothing: these are definitions.
-use Rattle.std.specs.Prelude.{ℕ}
+-- What is turned away: each case's number and place, and how it is said. Assumes nothing: these are definitions.
+use Rattle.std.specs.Prelude.{ℕ, List, ◌++◌, codes, decimal}
 use Rattle.grid.specs.declared.refusal.Dimension.{Dimension}
 use Rattle.grid.specs.declared.refusal.Dimension.TheVariants.{Wide, High, Turn}
 use Rattle.grid.specs.declared.refusal.Refusal.{Refusal}
@@ -25,3 +25,23 @@ place (Seen p) = p
 place (Price p) = p
 place (Room n) = n
 place (Text l) = l
+
+-- the reason in a few words
+abbrev pub size_text : Dimension → List ℕ
+size_text Wide = codes "a field that isn't 1 to 64 wide"
+size_text High = codes "a field that isn't 1 to 64 high"
+size_text Turn = codes "a turn that isn't 2 to 65,536"
+
+abbrev pub reason_text : Refusal → List ℕ
+reason_text (Size d) = size_text d
+reason_text (Seen p) = codes "a number that is a turn or more"
+reason_text (Price p) = codes "a price that is above 1,000 or lacks"
+reason_text (Room n) = codes "a room that isn't a number for each place"
+reason_text (Text l) = codes "a line that can't be read"
+
+abbrev pub line_text : ℕ → ℕ → List ℕ → List ℕ
+line_text n p words = codes "refused " ++ (decimal n ++ (codes " at " ++ (decimal p ++ (codes ": " ++ words))))
+
+-- as `refused 2 at 5: a number that is a turn or more`
+abbrev pub refusal_text : Refusal → List ℕ
+refusal_text r = line_text (number r) (place r) (reason_text r)

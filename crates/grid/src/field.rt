@@ -4,7 +4,8 @@ ghost use Rattle.std.specs.Prelude.{ℕ, ◌<◌, ◌≤◌, slice_index};
 // The most places that a field has.
 pub const PLACES: usize = 4096;
 
-// A field by value, its lists row by row from the upper left, and 0 past its last place.
+// A field by value, its lists row by row from the upper left, and 0 past its last place. Three lists as they are lent: the project fixes
+// that form.
 #[derive(Drop)]
 pub struct Field {
     pub(crate) wide: usize,

@@ -1,6 +1,8 @@
 // What is turned away, and where.
-ghost use Rattle.std.specs.Prelude.{◌≡◌};
-ghost use Rattle.grid.specs.Refusal.{number, place};
+ghost use Rattle.std.specs.Prelude.{◌≡◌, Some};
+ghost use Rattle.grid.specs.Refusal.{number, place, reason_text, refusal_text};
+
+use std::fmt;
 
 #[derive(Clone, Copy, PartialEq, Eq, Debug)]
 pub enum Dimension {
@@ -24,6 +26,7 @@ pub enum Refusal {
 }
 
 impl Refusal {
+    // A number and not the enum, since it is printed, and answered to callers in C.
     pub fn number(self) -> u64
         ensures { result ≡ number self }
     {
@@ -47,5 +50,32 @@ impl Refusal {
             Refusal::Room(n) => n,
             Refusal::Text(line) => line,
         }
+    }
+
+    // Why, in a few words.
+    pub fn reason(self) -> &'static str
+        ensures { result.now ≡ reason_text self }
+    {
+        match self {
+            Refusal::Size(Dimension::Wide) => "a field that isn't 1 to 64 wide",
+            Refusal::Size(Dimension::High) => "a field that isn't 1 to 64 high",
+            Refusal::Size(Dimension::Turn) => "a turn that isn't 2 to 65,536",
+            Refusal::Seen(_) => "a number that is a turn or more",
+            Refusal::Price(_) => "a price that is above 1,000 or lacks",
+            Refusal::Room(_) => "a room that isn't a number for each place",
+            Refusal::Text(_) => "a line that can't be read",
+        }
+    }
+}
+
+// The number, the place and the reason, as `refused 2 at 5: a number that is a turn or more`.
+impl fmt::Display for Refusal {
+    ghost output = { λ r. Some (refusal_text r) };
+
+    fn fmt<W: fmt::Write>(&self, f: &mut fmt::Formatter<W>) -> fmt::Result {
+        let number = self.number();
+        let place = self.place();
+        let reason = self.reason();
+        write!(f, "refused {number} at {place}: {reason}")
     }
 }

@@ -1,4 +1,5 @@
-// Rows of lists that are kept row by row.
+// Rows of lists that are kept row by row. A row is asked for by number, its bound a clause: a type of such numbers would have to name its
+// field.
 ghost use Rattle.std.specs.Prelude.{◌+◌, ◌*◌, ◌<◌, ◌≤◌, length};
 ghost use Rattle.grid.specs.Model.{Row};
 
@@ -30,7 +31,7 @@ impl Field {
         self.row(&self.seen, y)
     }
 
-    // The prices of the steps to the right in a row.
+    // The prices of the steps to the right in a row. This and `below_row` are `row` of the one list and of the other.
     pub fn right_row(&self, y: usize) -> &[u32]
         requires { y < self.now.high }
         ensures { Row self.now.wide y self.now.right result.now }

@@ -16,7 +16,7 @@ pub enum Off {
     More,
 }
 
-// Which of the two ways round is the longer.
+// Which of the two ways round is the longer: an order in the names of squares.
 fn compared(over: i64, under: i64) -> Off
     ensures { Compared over under result }
 {
@@ -59,14 +59,15 @@ impl Field {
     }
 }
 
-// 1 for a square that is off.
+// 1 for a square that is off: the library's conversion, by the name that the sum of them has.
 fn counted(off: Off) -> usize
     ensures { result ≡ counted off }
 {
     usize::from(off != Off::Back)
 }
 
-// How many squares are off between a row of what was seen and the one below it.
+// How many squares are off between a row of what was seen and the one below it. The loop is over squares by their number: windows of
+// the two rows would be read by number again.
 fn row_off(turn: u32, upper: &[u32], lower: &[u32]) -> usize
     requires { Rows turn upper.now lower.now }
     ensures { result ≡ row_off turn upper.now lower.now }
@@ -84,6 +85,7 @@ impl Field {
         ensures { result ≡ squares_off (field_of self.now) }
     {
         let mut off = 0;
+        // Rows by number: windows of rows would be read by number again.
         for y in 0..self.high - 1 {
             off += row_off(self.turn, self.seen_row(y), self.seen_row(y + 1));
         }

@@ -46,8 +46,8 @@ pub fn expected(turn: u32, from: u32, to: u32) -> i64
     ensures is { result ≡ near turn (pos to -ℤ pos from) }
     ensures within { unsigned_abs result < 2 ^ 33 }
 {
-    let apart = i64::from(to) - i64::from(from);
-    turned(apart, near_by(turn, from, to), turn)
+    let step = i64::from(to) - i64::from(from);
+    turned(step, near_by(turn, from, to), turn)
 }
 
 impl Field {
@@ -76,6 +76,9 @@ impl Field {
         let (x, y) = self.position(place)?;
         Some(self.seen_at(x, y))
     }
+
+    // To the right and down are two functions each, as the definitions that they are held to: one that is told the way would only match
+    // on it.
 
     // The price of the step to the right from a place; None where there is no place.
     pub fn price_right(&self, place: usize) -> Option<u32>

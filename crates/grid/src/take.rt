@@ -25,6 +25,7 @@ impl Field {
     {
         match lent.refusal(room) {
             Some(refusal) => Err(refusal),
+            // What is not refused is small enough for these casts.
             None => Ok(Field {
                 wide: lent.wide as usize,
                 high: lent.high as usize,

@@ -1,12 +1,12 @@
 // Whether a field is taken, or why it is turned away.
-ghost use Rattle.std.specs.Prelude.{◌≡◌, ◌≤◌, MatchOption};
+ghost use Rattle.std.specs.Prelude.{◌≡◌, ◌≤◌, IfNone, IfSome};
 ghost use Rattle.grid.specs.Lists.{RightList, WrongFirst};
 ghost use Rattle.grid.specs.Lent.{IsJudged};
 ghost use Rattle.grid.specs.Verdict.{wrong_size};
 
 use crate::refusal::{Dimension, Refusal};
 
-// A field as it is lent: its size, and the lists row by row from the upper left.
+// A field as it is lent: its size, and the lists row by row from the upper left. Three lists, as the project's entry takes them.
 #[derive(Clone, Copy)]
 pub struct Lent<'s, 'r, 'b> {
     pub wide: u64,
@@ -33,9 +33,11 @@ pub fn wrong_dimension(wide: u64, high: u64, turn: u64) -> Option<Dimension>
     None
 }
 
-// The first place at which a list isn't one number below the bound for each of so many places.
+// The first place at which a list isn't one number below the bound for each of so many places. Places are told as u64, which the language
+// makes of a usize by `as` alone.
 pub fn first_wrong(list: &[u32], places: u64, bound: u64) -> Option<u64>
-    ensures { MatchOption result (RightList places bound list.now) (λ p. WrongFirst places bound list.now p) }
+    ensures right { IfNone result (RightList places bound list.now) }
+    ensures wrong { IfSome result (WrongFirst places bound list.now) }
 {
     for (i, x) in list.iter().enumerate() {
         if i as u64 >= places || u64::from(*x) >= bound {

@@ -1,5 +1,5 @@
 -- What turns cost, over a field and over expected steps that come from anywhere. Assumes nothing: these are definitions.
-use Rattle.std.specs.Prelude.{ℕ, zero, suc, pred, ◌+◌, ◌*◌, ◌≤◌, cond, ℤ, pos, ◌+ℤ◌, ◌-ℤ◌, nat_lt, unsigned_abs}
+use Rattle.std.specs.Prelude.{ℕ, zero, suc, pred, ◌+◌, ◌*◌, ◌≤◌, if◌then◌else◌, ℤ, pos, ◌+ℤ◌, ◌-ℤ◌, nat_lt, unsigned_abs}
 use Rattle.sums.specs.Sum.{sum_to, sum_ℤ}
 use Rattle.grid.specs.Field.{Field, Turns, step_right, step_below, expected_right, expected_below}
 use Rattle.grid.specs.Promise.{near_by}
@@ -57,8 +57,8 @@ heights_cost s h =
 
 -- of n steps in a line, those to and from the place i
 unfoldable pub beside : (n i : ℕ) → (ℕ → ℕ) → ℕ
-beside n zero g = cond (nat_lt 0 n) (g 0) 0
-beside n (suc i) g = g i + cond (nat_lt (suc i) n) (g (suc i)) 0
+beside n zero g = if nat_lt 0 n then g 0 else 0
+beside n (suc i) g = g i + (if nat_lt (suc i) n then g (suc i) else 0)
 
 -- what the steps to and from a place of the field cost
 unfoldable pub around : Steps → Heights → ℕ → ℕ → ℕ

@@ -6,7 +6,6 @@ mod options;
 use answers::{Form, View, answer_to_text};
 use anyhow::anyhow;
 use options::{USAGE, Word, word_of};
-use printing::refused::refusal_line;
 use std::io::Read;
 use std::process::ExitCode;
 use std::{env, fs, io};
@@ -40,8 +39,7 @@ fn show(rt: &HostRuntime, view: View, file: Option<String>) -> anyhow::Result<Ex
             Ok(ExitCode::SUCCESS)
         }
         Err(Unread::Refused(refusal)) => {
-            let line = refusal_line(rt.alloc(), refusal)?;
-            eprintln!(rt; "{line}")?;
+            eprintln!(rt; "{refusal}")?;
             Ok(ExitCode::FAILURE)
         }
         Err(Unread::Memory) => Err(anyhow!("out of memory")),

@@ -29,6 +29,8 @@ fn add(flow: &mut [i64], a: usize, d: i64)
 impl Flow<'_, '_> {
     ghost use Rattle.network.specs.Sound.{state, Pushed};
 
+    // Arcs are asked for by number here, each with its bound as a clause: a type of such numbers would have to name its network.
+
     /// Whether arc `a` can take more.
     pub fn open(&self, a: usize) -> bool
         requires { a < (graph self.now.net).arcs }

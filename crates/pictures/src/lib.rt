@@ -17,6 +17,7 @@ fn part_of(part: u64, span: u64) -> u8
     if part >= span {
         return 255;
     }
+    // A part less than the whole: the cast loses nothing, and `TryFrom` would tell of an error that there is not.
     (u128::from(part) * 255 / u128::from(span)) as u8
 }
 
@@ -27,7 +28,7 @@ pub fn shade_of(low: i64, high: i64, z: i64) -> u8
     part_of(z.abs_diff(low), high.abs_diff(low))
 }
 
-// The least of the numbers; None where there are none.
+// The least of the numbers; None where there are none. It and `highest` are the library's two methods, with what a picture needs of them.
 fn lowest(values: &[i64]) -> Option<i64>
     ensures none { IsNone result ↔ (values.now ≡ []) }
     ensures one { IfSome result (Contains values.now) }

@@ -5,7 +5,8 @@ ghost use Rattle.printing.specs.Heights.{heights_of};
 
 use std::alloc::{AllocError, Global};
 
-// A number in the range of heights, the nearest where it is too large or too small.
+// A number in the range of heights, the nearest where it is too large or too small. After `clamp` the cast loses nothing; `TryFrom` would
+// have an error to answer.
 fn clamped(z: i128) -> i64
     ensures { result ≡ saturate_to_bits 63 z }
 {

@@ -1,9 +1,8 @@
-// Printing: rows of numbers, costs, signs and refusals.
+// Printing: rows of numbers, costs and signs.
 #![tactic(auto)]
 
 pub mod answer;
 pub mod back;
 pub mod heights;
-pub mod refused;
 pub mod rows;
 pub mod signs;

@@ -39,6 +39,7 @@ pub fn push_rows(out: &mut String, wide: usize, high: usize, list: &[i64]) -> Re
     ensures { OnOk result (string_bytes out.new ≡ string_bytes out.old ++ rows_text wide high list.now) }
 {
     let mut rest = list;
+    // So many times: a row may be empty, so the list does not tell how many there are.
     for _y in 0..high {
         let (row, after) = parted(rest, wide);
         push_row(out, row)?;

@@ -32,7 +32,7 @@ fn sign_at(field: &Field, x: usize, y: usize) -> char
     }
 }
 
-// Adds the signs of a row of squares.
+// Adds the signs of a row of squares. By number, since a square is no element of a list: the field is asked for each.
 fn push_sign_row(out: &mut String, field: &Field, y: usize) -> Result<(), AllocError>
     requires { suc y < field.now.high }
     ensures { OnOk result
@@ -44,7 +44,7 @@ fn push_sign_row(out: &mut String, field: &Field, y: usize) -> Result<(), AllocE
     Ok(())
 }
 
-// Adds a line of signs for each row of squares.
+// Adds a line of signs for each row of squares, by number, since each lies between two rows of the field.
 pub fn push_signs(out: &mut String, field: &Field) -> Result<(), AllocError>
     ensures { OnOk result (string_bytes out.new ≡ string_bytes out.old ++ signs_text (field_of field.now)) }
 {

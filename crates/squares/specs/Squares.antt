@@ -1,5 +1,5 @@
 -- The network of a field's squares: its nodes, its edges and what each node supplies. Assumes nothing: these are definitions.
-use Rattle.std.specs.Prelude.{ℕ, suc, pred, ◌+◌, ◌-◌, ◌*◌, ◌/◌, ◌%◌, ◌^◌, Bool, cond, ◌&&◌, ℤ, pos, ◌+ℤ◌, neg_ℤ, ◌==◌, nat_lt}
+use Rattle.std.specs.Prelude.{ℕ, suc, pred, ◌+◌, ◌-◌, ◌*◌, ◌/◌, ◌%◌, ◌^◌, Bool, if◌then◌else◌, ◌&&◌, ℤ, pos, ◌+ℤ◌, neg_ℤ, ◌==◌, nat_lt}
 use Rattle.sums.specs.Sum.{sum_ℤ}
 use Rattle.grid.specs.Field.{Field, Turns}
 use Rattle.laws.specs.Cost.{off, turn_steps, integral}
@@ -11,14 +11,14 @@ corner w h x y = (nat_lt 0 x && nat_lt x w) && (nat_lt 0 y && nat_lt y h)
 
 -- a square has the number of its last corner; all that is outside has 0
 unfoldable pub node : (w h x y : ℕ) → ℕ
-node w h x y = cond (corner w h x y) (y * w + x) 0
+node w h x y = if corner w h x y then y * w + x else 0
 
 abbrev pub places : Field → ℕ
 places f = f.wide * f.high
 
 -- the first n of a, then b
 abbrev pub joined : {A : Type 0} → ℕ → (ℕ → A) → (ℕ → A) → ℕ → A
-joined n a b e = cond (nat_lt e n) (a e) (b (e - n))
+joined n a b e = if nat_lt e n then a e else b (e - n)
 
 -- Place p has an edge across the step to the right, from the square below the step to the one above, and one across the step
 -- down, from the square to the left of it to the one to the right. Where there is no step the edge is a loop at 0, since both of its ends are outside.
@@ -40,11 +40,11 @@ squares_edges f =
 -- what the square of node v lacks for its expected steps to come back, in turns
 unfoldable pub square_supply : Field → ℕ → ℤ
 square_supply f v =
-    cond (corner f.wide f.high (v % f.wide) (v / f.wide)) (neg_ℤ (off (turn_steps f) (pred (v % f.wide)) (pred (v / f.wide)))) (pos 0)
+    if corner f.wide f.high (v % f.wide) (v / f.wide) then neg_ℤ (off (turn_steps f) (pred (v % f.wide)) (pred (v / f.wide))) else pos 0
 
 -- the outside makes up for all of them
 unfoldable pub supply_of : Field → ℕ → ℤ
-supply_of f v = cond (v == 0) (neg_ℤ (sum_ℤ (places f) (square_supply f))) (square_supply f v)
+supply_of f v = if v == 0 then neg_ℤ (sum_ℤ (places f) (square_supply f)) else square_supply f v
 
 -- what goes across the step to the right of a place, and across the step down, where edge e is arc `arc e`
 abbrev pub across_right : Field → (ℕ → ℕ) → (ℕ → ℤ) → ℕ → ℕ → ℤ

@@ -11,7 +11,7 @@ use crate::row::parted;
 use grid::refusal::Refusal;
 use std::alloc::{AllocError, Global};
 
-// A field as a text says it, with lists row by row from the upper left.
+// A field as a text says it, with lists row by row from the upper left: three, as the entry of the project takes them.
 #[derive(Drop)]
 pub struct Document {
     pub wide: u64,
@@ -58,7 +58,7 @@ impl Fault {
     }
 }
 
-// How many rows so many numbers are.
+// How many rows so many numbers are. Sizes are counted as usize and told as u64: by `as`, for want of a From.
 fn rows_in(numbers: usize, wide: usize) -> usize
     ensures { result ≡ rows_in numbers wide }
 {

@@ -12,7 +12,7 @@ use std::alloc::Global;
 
 // The lines so far: the turn and the price where there were any, whether the squares are asked for, how wide rows are, and the
 // numbers of all rows. The width is 0 before the first row: no row is 0 wide, and a document without rows is, so that an Option would
-// need a NonZero in it, and be unwrapped to 0 again.
+// be unwrapped to 0 again.
 #[derive(Drop)]
 pub struct Draft {
     pub(crate) turn: Option<u64>,

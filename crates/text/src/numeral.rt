@@ -3,7 +3,7 @@ ghost use Rattle.std.specs.Prelude.{◌≡◌, ◌+◌, ◌*◌};
 ghost use Rattle.std.specs.Option.{option_map};
 ghost use Rattle.text.specs.Numeral.{digit, numeral, capped};
 
-// What a digit is worth; None for another byte.
+// What a digit is worth; None for another byte. A pattern by the name that numerals are defined by.
 fn digit(b: u8) -> Option<u8>
     ensures { result ≡ digit b }
 {
@@ -34,7 +34,7 @@ pub fn numeral_of(word: &[u8]) -> Option<u64>
     Some(n)
 }
 
-// A number in the range of a list's entries.
+// A number in the range of a list's entries: `try_from`, the largest where it is too large.
 pub fn entry(n: u64) -> u32
     ensures { result ≡ capped u32.MAX n }
 {

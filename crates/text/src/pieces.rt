@@ -69,6 +69,7 @@ pub fn next_word(line: &[u8]) -> Option<(&[u8], &[u8])>
     ensures { First words line.now result }
 {
     let mut rest = line;
+    // Until there is a word: nothing is counted.
     while !rest.is_empty() {
         let (word, after) = first_piece(Mark::Blank, rest);
         if !word.is_empty() {

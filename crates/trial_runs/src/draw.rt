@@ -18,6 +18,7 @@ impl Draws {
             .state
             .wrapping_mul(6364136223846793005)
             .wrapping_add(1442695040888963407);
+        // Below a u32: the cast loses nothing.
         ((self.state >> 33) % u64::from(bound)) as u32
     }
 

@@ -66,6 +66,7 @@ fn try_field(trial: &Trial) -> Outcome {
 // Tries fields with prices of one kind, and prints each in which something is not as it should be.
 fn try_prices(rt: &HostRuntime, draws: &mut Draws, prices: Prices) -> io::Result<Counts> {
     let mut counts = Counts::default();
+    // So many times.
     for _ in 0..FIELDS {
         let trial = Trial::draw(draws, prices);
         let outcome = try_field(&trial);

@@ -21,7 +21,8 @@ pub struct Trial {
     ghost turns: { 2 ≤ turn },
 }
 
-// What is seen at six places.
+// What is seen at six places. Apart from `draw_six`, which draws as it does: a function that takes the draw as a closure was tried, and
+// the proof that the closure may be called in any state did not close.
 fn draw_seen(draws: &mut Draws, turn: u32) -> [u32; 6]
     requires { 2 ≤ turn }
     ensures { (k : ℕ) → k < 6 → slice_index result k < turn }
@@ -37,7 +38,7 @@ impl Trial {
     ghost use Rattle.unwrap.specs.Entry.{RefusedSays, BackSays, LeastSays};
     ghost use Rattle.trial_runs.specs.Drawn.{IsDrawn, Lends, TurnedAway, SaysOff, verdict_of, field_lent};
 
-    // Draws a field.
+    // Draws a field. Its places fit a usize, being six at most.
     fn draw_once(draws: &mut Draws, prices: Prices) -> Trial
         ensures { IsDrawn result }
     {

@@ -12,7 +12,7 @@ use turns::cost::cost;
 // The most places of a field whose turns are tried.
 pub const MOST: usize = 6;
 
-// The turns of a code's first place.
+// The turns of a code's first place. A digit: the cast loses nothing.
 fn first_turns(code: u64) -> i64
     ensures { result ≡ (pos (code % 5) -ℤ pos 2) }
 {
@@ -44,7 +44,7 @@ fn cost_of(field: &Field, code: u64) -> u64
     }
 }
 
-// The least cost of the turns of the first so many codes.
+// The least cost of the turns of the first so many codes. The codes are what is tried, and stand in no list.
 fn least_of(field: &Field, codes: u64) -> u64
     requires few { field.now.wide * field.now.high ≤ 6 }
     requires some { 1 ≤ codes }
@@ -71,6 +71,7 @@ pub fn least_tried(field: &Field) -> Option<u64>
     if places > MOST {
         return None;
     }
+    // At most six: the cast loses nothing.
     Some(least_of(field, 5u64.pow(places as u32)))
 }
 

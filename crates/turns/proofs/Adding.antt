@@ -4,8 +4,6 @@ use Rattle.std.proofs.lemmas.Nat.{mul-le}
 use Rattle.sums.specs.Sum.{sum_to}
 use Rattle.sums.proofs.Loop.{sum_none, sum_more}
 use Rattle.turns.specs.Rows.{Most, differs_by, along, across, row_cost, between_cost, RowFits, PricesFit}
-use Rattle.turns.specs.Place.{IsAt}
-use Rattle.turns.specs.declared.place.Place.{Place}
 use Rattle.grid.proofs.Near.{near_by_small}
 use Rattle.std.proofs.lemmas.Int.{ints}
 
@@ -42,10 +40,3 @@ row_all t ss us ps cost s = s.is ∙ rw (sub-one (length ss))
 pub between_all : (t : ℕ) (ss : List ℕ) (us : List ℤ) (rs : List ℕ) (vs : List ℤ) (ps : List ℕ) (cost : ℕ) → SoFar (across t ss us rs vs ps) (length ss) cost → cost ≡ between_cost t ss us rs vs ps
 unfolding between_cost
 between_all t ss us rs vs ps cost s = s.is
-
--- what a step costs between two places of rows
-pub step_told : (t price : ℕ) (ss rs : List ℕ) (us vs : List ℤ) (i j : ℕ) (p q : Place) (r : ℕ) → IsAt ss us i p → IsAt rs vs j q →
-    r ≡ price * nat_abs (differs_by t p.seen q.seen p.turns q.turns) →
-    r ≡ price * nat_abs (differs_by t (get_or ss i 0) (get_or rs j 0) (get_or us i (pos 0)) (get_or vs j (pos 0)))
-step_told t price ss rs us vs i j p q r a b e =
-    let ps = a.seen in let pt = a.turns in let qs = b.seen in let qt = b.turns in cc

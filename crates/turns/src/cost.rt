@@ -42,7 +42,8 @@ impl<'f, 'r> Turned<'f, 'r> {
         }
     }
 
-    // What the steps to the right cost, in turns.
+    // What the steps to the right cost, in turns: each row by itself, where those down lie between two. Rows by number in both, since each
+    // has parts in three lists.
     fn right_cost(self) -> u64
         ensures is { result ≡ sum_to self.entry.field.now.high (right_part (field_of self.entry.field.now) (turns_in self.entry.field.now.wide self.entry.room.now)) }
         ensures small { result ≤ 8589938688000 }

@@ -6,7 +6,8 @@ ghost use Rattle.grid.specs.Model.{field_of, HasRight, HasBelow, turns_right_fro
 use grid::field::Field;
 use grid::rows::row_of;
 
-// Steps in whole turns from each place, to the right and down, row by row; 0 past the last place.
+// Steps in whole turns from each place, to the right and down, row by row; 0 past the last place. Two lists, since a row of one of them
+// is handed on by itself, as a field's lists are.
 #[derive(Clone, Copy)]
 pub struct Steps {
     pub right: [i64; 4096],
@@ -62,7 +63,7 @@ fn follow_row(start: i64, steps: &[i64], row: &mut [i64])
 }
 
 // Writes turns for a field so wide and high, row by row, 0 for the first place, that follow steps down the first column and along
-// each row.
+// each row. Rows by their number, for a row of the room needs that of the steps, and the step down from its first place.
 pub fn follow(wide: usize, high: usize, steps: &Steps, room: &mut [i64])
     requires wide_bound { wide ≤ 64 }
     requires high_bound { high ≤ 64 }

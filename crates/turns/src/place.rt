@@ -10,7 +10,7 @@ pub struct Place {
     ghost most: { Most turns },
 }
 
-// What was seen in a row, and the turns that are put back there.
+// What was seen in a row, and the turns that are put back there: two slices, since one is a field's and one a room's.
 #[derive(Clone, Copy)]
 pub struct Line<'s, 't> {
     pub seen: &'s [u32],

@@ -19,6 +19,7 @@ use grid::verdict::Lent;
 use turns::cost::cost;
 use turns::follow::follow;
 
+// What the entry answers. An enum with the refusal's number and no Result: a rule of the project fixes the entry's form.
 #[derive(Clone, Copy, PartialEq, Eq, Debug)]
 pub enum Done {
     // What the turns cost.

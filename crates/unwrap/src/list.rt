@@ -38,7 +38,8 @@ fn crossing(from: usize, to: usize, price: u32) -> Edge
     }
 }
 
-// The edge across the step to the right from a place: from the square below the step to the one above.
+// The edge across the step to the right from a place: from the square below the step to the one above. Its ends are others than those of
+// an edge across a step down, and what they share is `crossing`.
 fn edge_right(field: &Field, place: usize) -> Edge
     requires { place < places (field_of field.now) }
     ensures { IsEdge (squares_edges (field_of field.now)) place result }

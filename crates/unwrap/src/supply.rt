@@ -9,7 +9,8 @@ use grid::field::Field;
 use grid::square::Off;
 use network::Node;
 
-// A square that is off by a turn more lacks a unit, and one that is off by a turn less has one.
+// A square that is off by a turn more lacks a unit, and one that is off by a turn less has one. A match, as the specification has it: an
+// `Off` with numbers of its own would say what no other crate needs.
 fn units(off: Off) -> i64
     ensures { result ≡ neg_ℤ (off_by off) }
 {

@@ -11,13 +11,16 @@ pub struct Mark {
 
 ghost use Rattle.ways.specs.Mark.{label_of, via_of, place_of, node_at, Arranged, Exchanged, Labelled};
 
+// Marks by node and nodes by place are two lists, since both ways are asked. Here and below that they are as long is a clause; the search
+// that has both keeps it by its type.
+
 // Lets each node stand at its own number.
 pub(crate) fn arrange(marks: &mut [Mark], order: &mut [usize])
     requires { length marks.old ≡ length order.old }
     ensures { Arranged (length order.new) (place_of marks.new) (node_at order.new) }
 {
-    for k in 0..order.len() {
-        order[k] = k;
+    for (k, node) in order.iter_mut().enumerate() {
+        *node = k;
         marks[k].place = k;
     }
 }

@@ -141,6 +141,7 @@ impl<'m, 'o> Search<'m, 'o> {
         ensures source { self.new.source ≡ self.old.source }
     {
         let net = flow.net;
+        // By the arcs' numbers, which the search keeps.
         for a in net.first[u]..net.first[u + 1] {
             if self.bound <= self.level {
                 return;
@@ -159,6 +160,7 @@ impl<'m, 'o> Search<'m, 'o> {
         ensures least { (k : ℕ) → self.now.reached ≤ k → k < self.now.seen →
             (tree self.now).label ((tree self.now).order result) ≤ℤ (tree self.now).label ((tree self.now).order k) }
     {
+        // By place, which is answered.
         let last = self.seen - 1;
         let mut best = last;
         let mut least = self.marks[self.order[last]].label;
@@ -217,6 +219,8 @@ impl<'m, 'o> Search<'m, 'o> {
     }
 
     /// The nearest lacking node from `source`, if ways lead to one.
+    // That both have as many nodes is a clause and no struct of both: this changes the search and reads the flow, and the solver's steps
+    // do the other.
     pub fn find(&mut self, flow: &Flow, source: usize) -> Option<usize>
         requires room { Roomy (graph flow.now.net).nodes self.old }
         requires sound { Sound (graph flow.now.net) (state flow.now) }
@@ -229,6 +233,7 @@ impl<'m, 'o> Search<'m, 'o> {
         ensures found { SomeIff result (self.new.bound <ℤ far) self.new.target }
     {
         self.begin(source);
+        // Each node is known only when the one before was looked at.
         while let Some(u) = self.advance() {
             self.scan(flow, u);
         }

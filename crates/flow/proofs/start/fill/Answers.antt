@@ -5,14 +5,14 @@ use Rattle.std.proofs.lemmas.List.{get_or-set_same, get_or-set_other}
 use Rattle.network.specs.Graph.{Graph, IsArc}
 use Rattle.network.specs.Network.{graph}
 use Rattle.flow.specs.Start.{started}
-use Rattle.formed.proofs.Partial.{sum_none}
+use Rattle.sums.proofs.Loop.{sum_ℤ_none}
 use Rattle.flow.proofs.Begin.{taken_here, partly, started_small}
 use Rattle.flow.proofs.start.fill.Goals as goal
 
 pub loop-a-init : goal.loop-a-init
 loop-a-init c =
     let g = graph c.args.flow.now.net in
-    (search rules, λ b h. absurd (omega (arith, h)), λ v h. omega (arith, ints, sum_none (λ b. (if nat_eq (g.tail b) v then started g b else pos 0))))
+    (search rules, λ b h. absurd (omega (arith, h)), λ v h. omega (arith, ints, sum_ℤ_none (λ b. (if nat_eq (g.tail b) v then started g b else pos 0))))
 
 pub overflow_sub-flow : goal.overflow_sub-flow
 overflow_sub-flow c =

@@ -1,22 +1,19 @@
-use Rattle.std.proofs.Common.{◌≡◌, ℕ, ◌+◌, ◌-◌, ◌≤◌, length, subst, arith}
+use Rattle.std.proofs.Common.{◌≡◌, ℕ, ◌-◌, ◌≤◌, length, subst, arith}
 use Rattle.turns.specs.Rows.{along}
-use Rattle.turns.proofs.Adding.{SoFar, none_yet, one_more, step_told, along_small, row_all}
+use Rattle.turns.proofs.Adding.{SoFar, none_yet, one_more, along_small, row_all}
 use Rattle.turns.proofs.price.row_cost.Goals as goal
 
 pub loop-x-init : goal.loop-x-init
 loop-x-init c = none_yet _
 
-small : (c : goal.After-step_cost-cost) → along c.args.turn c.args.line.seen.now c.args.line.turns.now c.args.prices.now c.loop-x.x ≤ 2097153000
+small : (c : goal.After-along-cost) → along c.args.turn c.args.line.seen.now c.args.line.turns.now c.args.prices.now c.loop-x.x ≤ 2097153000
 small c = along_small c.args.turn c.args.line.seen.now c.args.line.turns.now c.args.prices.now c.loop-x.x c.args.line.fits c.requires.prices_fit (omega arith)
 
-told : (c : goal.After-step_cost-cost) → c.step_cost-cost.result ≡ along c.args.turn c.args.line.seen.now c.args.line.turns.now c.args.prices.now c.loop-x.x
-told c = step_told c.args.turn _ c.args.line.seen.now c.args.line.seen.now c.args.line.turns.now c.args.line.turns.now c.loop-x.x (c.loop-x.x + 1) _ _ _ c.at.ensures c.at-in-loop-x.ensures c.step_cost-cost.ensures
-
 pub overflow_add-cost : goal.overflow_add-cost
-overflow_add-cost c = omega (arith, c.loop-x.invariant.small, told c, small c, c.args.line.fits.few)
+overflow_add-cost c = omega (arith, c.loop-x.invariant.small, c.along-cost.ensures, small c, c.args.line.fits.few)
 
 pub loop-x-preserved : goal.loop-x-preserved
-loop-x-preserved c = one_more _ c.loop-x.x c.loop-x.cost _ c.loop-x.invariant (told c) (small c)
+loop-x-preserved c = one_more _ c.loop-x.x c.loop-x.cost _ c.loop-x.invariant c.along-cost.ensures (small c)
 
 pub returns : goal.returns
 returns c =
