@@ -54,7 +54,7 @@ fn put_in(heap: Global, lent: &Lent<'_, '_, '_>) -> Result<Turned, AllocError>
     Ok(Turned { turns, done })
 }
 
-// The text of heights.
+// The text of heights. A match, since the two forms share nothing but what they are told.
 fn shown(heap: Global, form: Form, report: &Report<'_>) -> Result<String, AllocError>
     ensures { IfOk result (λ s.
         string_bytes s ≡ form_text form (field_of report.now.field.now) report.now.heights.now report.now.cost report.now.squares) }
@@ -70,7 +70,8 @@ fn shown(heap: Global, form: Form, report: &Report<'_>) -> Result<String, AllocE
     }
 }
 
-// The heights of a field as it is lent, or why it is turned away.
+// The heights of a field as it is lent, or why it is turned away. A length is a u64 to what takes a field, here and in `rings`: the
+// language has no From for that.
 fn worked(
     heap: Global,
     lent: &Lent<'_, '_, '_>,
@@ -104,7 +105,7 @@ fn rings(heap: Global, lent: &Lent<'_, '_, '_>, squares: bool) -> Result<String,
     Ok(picture(heap, field.wide(), field.high(), numbers.as_slice())?)
 }
 
-// What is shown of a document, or why it is turned away.
+// What is shown of a document, or why it is turned away. A match, since a view may have a form with it.
 pub fn answer_to(heap: Global, document: &Document, view: View) -> Result<String, Unread>
     ensures { Worked view (contents document.now) result }
 {

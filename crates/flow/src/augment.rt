@@ -48,7 +48,8 @@ fn lesser(a: i64, b: i64) -> i64
     a.min(b)
 }
 
-// As much as the ends of the way found and its arcs take at their present unit costs.
+// As much as the ends of the way found and its arcs take at their present unit costs. Sound, and as many nodes, are clauses here and
+// below: of a flow between two steps, and of a search that serves other flows too.
 fn least_room(flow: &Flow, search: &Search) -> i64
     requires room { Roomy (graph flow.now.net).nodes search.now }
     requires sound { Sound (graph flow.now.net) (state flow.now) }

@@ -39,6 +39,7 @@ impl Refusal {
         }
     }
 
+    // Where it went wrong, and below why: by kind, with what the kind has.
     pub fn place(self) -> u64
         ensures { result ≡ place self }
     {

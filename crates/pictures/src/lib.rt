@@ -70,7 +70,7 @@ fn shades_of(heap: Global, low: i64, high: i64, values: &[i64]) -> Result<Vec<i6
         .collect(heap)
 }
 
-// The first lines of a picture.
+// The first lines of a picture: a text of its own, so `format!`.
 fn head_of(heap: Global, wide: usize, high: usize) -> Result<String, AllocError>
     ensures { IfOk result (λ s. string_bytes s ≡ head_text wide high) }
 {

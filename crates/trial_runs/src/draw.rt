@@ -59,7 +59,7 @@ pub enum Prices {
 }
 
 impl Prices {
-    // A price.
+    // A price, each kind in its own way.
     fn draw(self, draws: &mut Draws) -> u32
         ensures { result ≤ 1000 }
     {
@@ -87,7 +87,7 @@ impl Prices {
         prices
     }
 
-    // How they are called.
+    // How they are called, each kind by its own name.
     pub fn name(self) -> &'static str
         ensures { result.now ≡ name_of self }
     {

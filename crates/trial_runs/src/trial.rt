@@ -7,6 +7,7 @@ use grid::verdict::Lent;
 use std::fmt;
 use unwrap::{Done, put_back};
 
+// Three lists, as the entry takes them.
 #[derive(Drop)]
 pub struct Trial {
     pub wide: u64,
@@ -101,7 +102,7 @@ impl Trial {
         }
     }
 
-    // The field that it lends, if it is one.
+    // The field that it lends, if it is one. As a u64, for which the language has no From.
     pub fn field(&self) -> Option<Field>
         ensures some { IfSome result (Lends self.now) }
         ensures none { IfNone result (TurnedAway self.now) }

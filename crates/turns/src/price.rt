@@ -22,7 +22,7 @@ fn step_cost(turn: u32, price: u32, from: Place, to: Place) -> u64
 }
 
 // What the step to the right from a place of a row costs. This and `across` take rows and a number, as the sums of them are proved over
-// such terms; what they share is `step_cost`.
+// such terms; what they share is `step_cost`. The turn and the prices are a field's, and no row's.
 fn along(turn: u32, line: Line<'_, '_>, prices: &[u32], x: usize) -> u64
     requires prices_fit { PricesFit (length line.seen.now) prices.now }
     requires x_in_bounds { x + 1 < length line.seen.now }

@@ -38,7 +38,8 @@ fn put_least(field: &Field, room: &mut [i64]) -> u64
     cost(field, room).unwrap()
 }
 
-// Takes a field and puts turns back, or turns it away with the room as it was.
+// Takes a field and puts turns back, or turns it away with the room as it was. A length is told as a u64, for which the language has no
+// From.
 fn answer(lent: &Lent<'_, '_, '_>, room: &mut [i64]) -> Done
     ensures { IsAnswered lent.now room.old result room.new }
 {

@@ -56,6 +56,8 @@ impl<'m, 'o> Search<'m, 'o> {
         }
     }
 
+    // Nodes by number here, each with its bound as a clause: a type of such numbers would have to name its search.
+
     // Puts node `v`, which is not reached, on the frontier if it is not there.
     fn meet(&mut self, v: usize)
         requires node { v < length self.old.order.now }
@@ -109,7 +111,8 @@ impl<'m, 'o> Search<'m, 'o> {
         }
     }
 
-    // Relaxes arc `a` of the node that was reached last.
+    // Relaxes arc `a` of the node that was reached last. That the flow is sound is a clause here and in what follows: it holds between the
+    // solver's steps, and a flow's type has to hold within them too.
     fn relax(&mut self, flow: &Flow, a: usize)
         requires room { Roomy (graph flow.now.net).nodes self.old }
         requires sound { Sound (graph flow.now.net) (state flow.now) }
