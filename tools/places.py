@@ -57,6 +57,8 @@ say("functions that answer a bool", grep(r"-> (.*Result<)?bool\b"))
 say("an Option within a Result", grep(r"Result<Option<"))
 say("functions that answer a u8 for nothing", grep(r"-> u8$"))
 say("the bound that no label comes to", grep(r"\bFAR\b"))
+say("an arm that hands on an error or nothing, or can't be", grep(r"(Err\(\w+\) => return Err|=> unreachable\(\)|(None|Err\(_\)|Some\(_\)) => (None|false|return None)\b)"))
+say("numbers of five digits and more", [x for x in grep(r"\b\d{5,}\b") if not re.search(r"(requires|ensures|ghost)", x)])
 
 print("2. twins")
 names = collections.Counter(name for _, name, _, _ in every)
@@ -78,6 +80,14 @@ print("3. loops")
 say("loops over numbers", grep(r"^\s*for .* in .*\.\."))
 say("while", grep(r"^\s*while (?!let)"))
 say("while let", grep(r"^\s*while let"))
+numbered = []
+for f, n, line in lines:
+    m = re.match(r"(\s*)for \((\w+), .* in .*enumerate\(\)", line)
+    if m:
+        body = itertools.takewhile(lambda it: it[2] != m.group(1) + "}", (it for it in lines if it[0] == f and it[1] > n))
+        if any(re.search(rf"\[{m.group(2)}\]", it[2]) for it in body):
+            numbered.append(f"{f}:{n}: {line.strip()}")
+say("for over elements that read another list by number", numbered)
 say("other for", [x for x in grep(r"^\s*for .* in ") if ".." not in x])
 
 print("4. equality, order, conversion and printing")
@@ -119,4 +129,6 @@ say("a match on a mark, a view or a form", grep(r"match (mark|view|form)\b"))
 print("contracts in older words")
 say("Decides, cond, eqb, get_or", grep(r"(requires|ensures).*\b(Decides|cond|eqb|get_or)\b"))
 say("clauses joined by ×", grep(r"(requires|ensures)[^{]*\{.*×"))
+say("ghost fields joined by ×", grep(r"ghost \w+: \{.*×"))
+say("≡ true, ≡ false, ≡ int_lt", grep(r"(requires|ensures).*≡ (true|false|int_lt)"))
 say("MatchOption, MatchResult", grep(r"(requires|ensures).*\b(MatchOption|MatchResult)\b"))

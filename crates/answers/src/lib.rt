@@ -37,7 +37,8 @@ struct Turned {
     done: Done,
 }
 
-// Puts turns back into a field as it is lent.
+// Puts turns back into a field as it is lent. The entry takes seven, as the project fixes it. The heap is
+// handed on beside what is lent here and below: both are taken apart at once.
 fn put_in(heap: Global, lent: &Lent<'_, '_, '_>) -> Result<Turned, AllocError>
     ensures { IfOk result (λ t. PutBack (lent_says lent.now false) t.done t.turns.items) }
 {
@@ -82,6 +83,7 @@ fn worked(
 {
     let field = Field::take(lent, lent.seen.len() as u64)?;
     let Turned { turns, done } = put_in(heap, lent)?;
+    // `Done` has no `unwrap`: the project fixes its form.
     let cost = match done {
         Done::Back(cost) => cost,
         Done::Refused(_) => unreachable(),

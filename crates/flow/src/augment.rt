@@ -10,10 +10,11 @@ ghost use Rattle.flow.specs.Answer.{Augmented};
 ghost use Rattle.flow.specs.Same.{SameFlow};
 
 use crate::stuck::Stuck;
+use crate::way::Way;
 use network::{Flow, Node};
 use ways::Search;
 
-// Raises the potential of node `v`.
+// Raises the potential of node `v`, by the name that the loop below has for it: one `+=`, as `add_excess` is of the other field.
 fn raise(nodes: &mut [Node], v: usize, d: i64)
     requires node { v < length nodes.old }
     requires small { unsigned_abs (potential_of nodes.old v) ≤ 2 ^ 62 }
@@ -48,8 +49,9 @@ fn lesser(a: i64, b: i64) -> i64
     a.min(b)
 }
 
-// As much as the ends of the way found and its arcs take at their present unit costs. Sound, and as many nodes, are clauses here and
-// below: of a flow between two steps, and of a search that serves other flows too.
+// As much as the ends of the way found and its arcs take at their present unit costs. Sound, found and as many nodes are clauses here and
+// below: they hold between two steps, and no struct of both could keep them, since the search changes while the flow is read, and the flow
+// while the search is.
 fn least_room(flow: &Flow, search: &Search) -> i64
     requires room { Roomy (graph flow.now.net).nodes search.now }
     requires sound { Sound (graph flow.now.net) (state flow.now) }
@@ -61,14 +63,12 @@ fn least_room(flow: &Flow, search: &Search) -> i64
     ensures arcs { (u : ℕ) → Chain (graph flow.now.net) (tree search.now) search.now.target u → (u ≢ search.now.source) →
         result ≤ℤ room (graph flow.now.net) (state flow.now).flow ((tree search.now).via u) }
 {
-    let net = flow.net;
-    let mut v = search.target;
-    let mut least = lesser(flow.nodes[search.source].excess, -flow.nodes[v].excess);
-    // From node to node, back to the source.
-    while v != search.source {
-        let a = search.marks[v].via;
+    let mut least = lesser(
+        flow.nodes[search.source].excess,
+        -flow.nodes[search.target].excess,
+    );
+    for a in Way::new(flow, search) {
         least = lesser(least, flow.room(a));
-        v = net.arcs[a].tail;
     }
     least
 }
@@ -86,13 +86,8 @@ fn send(flow: &mut Flow, search: &Search, amount: i64)
     ensures potential { (v : ℕ) → (state flow.new).potential v ≡ (state flow.old).potential v }
     ensures walked { Walking (graph flow.old.net) (state flow.old) (state flow.new) (tree search.now) search.now.source amount }
 {
-    let net = flow.net;
-    let mut v = search.target;
-    // From node to node, back to the source.
-    while v != search.source {
-        let a = search.marks[v].via;
+    for a in Way::new(flow, search) {
         flow.push(a, amount);
-        v = net.arcs[a].tail;
     }
 }
 

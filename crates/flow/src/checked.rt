@@ -14,7 +14,7 @@ use network::{Flow, Network, Node};
 use ways::{Mark, Search};
 
 /// The slices that the solver works on: a flow by arcs, the nodes, which have the supplies in excess, and what a search needs. Marks and
-/// order are of a search and not of the nodes: one search serves many flows.
+/// order are of a search and not of the nodes: the search writes them while it reads the flow, and the other way round when something is sent.
 #[derive(Drop)]
 pub struct Slices<'a> {
     pub flow: &'a mut [i64],
@@ -64,7 +64,8 @@ impl Slices<'_> {
             && self.order.len() == n
     }
 
-    // Whether the supplies are balanced.
+    // Whether the supplies are balanced. A method that only calls: where `try_solve` itself lends the nodes, the proof did not close, since
+    // nothing is known of them afterwards.
     fn balanced(&self) -> bool
         ensures { IsTrue result ↔ Balanced (length self.now.nodes.now) (excess_of self.now.nodes.now) }
     {

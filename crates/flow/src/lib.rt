@@ -7,6 +7,7 @@ mod settle;
 mod start;
 mod stuck;
 mod supplies;
+mod way;
 
 pub use checked::{Refusal, Slices, try_solve};
 pub use settle::solve;

@@ -35,6 +35,7 @@ fn fill(flow: &mut Flow)
         (state flow.new).excess v ≡ ((state flow.old).excess v -ℤ started_out (graph flow.old.net) v (graph flow.old.net).arcs) }
 {
     let net = flow.net;
+    // The flow by number: a `zip` of it with the arcs was tried, and the borrow checker does not cover it yet, so that nothing could be proved.
     for (a, arc) in net.arcs.iter().enumerate() {
         let x = first_flow(&net, a);
         flow.flow[a] = x;

@@ -61,11 +61,7 @@ mod tests {
             excess,
             potential: 0,
         });
-        let mut marks = [Mark {
-            label: 0,
-            via: 0,
-            place: 0,
-        }; 4];
+        let mut marks = [Mark::default(); 4];
         let mut order = [0; 4];
         let mut slices = Slices {
             flow,

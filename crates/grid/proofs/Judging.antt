@@ -19,7 +19,7 @@ within_tells low high n =
 
 sized_none : (w h t : ℕ) → Sized w h t → wrong_size w h t ≡ None
 sized_none w h t s =
-    rw (within_yes 1 64 w s.wide_fits.0 s.wide_fits.1, within_yes 1 64 h s.high_fits.0 s.high_fits.1, within_yes 2 65536 t s.turn_fits.0 s.turn_fits.1)
+    rw (within_yes 1 64 w s.wide_some s.wide_fits, within_yes 1 64 h s.high_some s.high_fits, within_yes 2 65536 t s.turn_some s.turn_fits)
 
 pub judged_is : (w h t : ℕ) (ss rs bs : List ℕ) (room : ℕ) (r : Option Refusal) → Judged w h t ss rs bs room r → r ≡ verdict w h t ss rs bs room
 judged_is w h t ss rs bs room None j =
@@ -81,7 +81,7 @@ no_high w h t a b = rw (within_yes 1 64 w a.0 a.1) (rw b)
 
 size_judged : (w h t : ℕ) → Sized w h t ⊎ ((d : Dimension) × (wrong_size w h t ≡ Some d))
 size_judged w h t =
-    ⊎_elim (λ a. ⊎_elim (λ b. ⊎_elim (λ c. inl (record { wide_fits = a; high_fits = b; turn_fits = c }))
+    ⊎_elim (λ a. ⊎_elim (λ b. ⊎_elim (λ c. inl (record { wide_some = a.0; wide_fits = a.1; high_some = b.0; high_fits = b.1; turn_some = c.0; turn_fits = c.1 }))
     (λ c. inr (Turn, no_turn w h t a b c)) (within_tells 2 65536 t))
     (λ b. inr (High, no_high w h t a b)) (within_tells 1 64 h))
     (λ a. inr (Wide, rw a)) (within_tells 1 64 w)

@@ -4,5 +4,7 @@ pub mod Nearest
 pub mod Squares
 pub mod Parts
 pub mod Widths
+pub mod Windows
 pub mod Judging
 pub mod Holding
+pub mod Told

@@ -32,9 +32,12 @@ verdict w h t ss rs bs room =
 
 -- a field 1 to 64 wide and high, and a turn of 2 to 65,536
 pub record Sized (w h t : ℕ) : Type 0 where
-  pub wide_fits : (1 ≤ w) × (w ≤ 64)
-  pub high_fits : (1 ≤ h) × (h ≤ 64)
-  pub turn_fits : (2 ≤ t) × (t ≤ 65536)
+  pub wide_some : 1 ≤ w
+  pub wide_fits : w ≤ 64
+  pub high_some : 1 ≤ h
+  pub high_fits : h ≤ 64
+  pub turn_some : 2 ≤ t
+  pub turn_fits : t ≤ 65536
 
 -- nothing of the list speaks against it
 pub record Taken (w h t : ℕ) (ss rs bs : List ℕ) (room : ℕ) : Type 0 where

@@ -3,7 +3,7 @@
 ghost use Rattle.std.specs.Prelude.{◌+◌, ◌*◌, ◌<◌, ◌≤◌, length};
 ghost use Rattle.grid.specs.Model.{Row};
 
-use crate::field::Field;
+use crate::field::{Field, PLACES};
 
 // A row of a list that is so many wide.
 pub fn row_of<T>(all: &[T], wide: usize, y: usize) -> &[T]
@@ -16,7 +16,7 @@ pub fn row_of<T>(all: &[T], wide: usize, y: usize) -> &[T]
 
 impl Field {
     // A row of a list of the field.
-    fn row<'a>(&'a self, list: &'a [u32; 4096], y: usize) -> &'a [u32]
+    fn row<'a>(&'a self, list: &'a [u32; PLACES], y: usize) -> &'a [u32]
         requires { y < self.now.high }
         ensures { Row self.now.wide y list.now result.now }
     {

@@ -16,7 +16,7 @@ pub enum Off {
     More,
 }
 
-// Which of the two ways round is the longer: an order in the names of squares.
+// Which of the two ways round is the longer. Not `Ordering` itself: where it is printed and counted, less and more are of turns.
 fn compared(over: i64, under: i64) -> Off
     ensures { Compared over under result }
 {
@@ -66,15 +66,15 @@ fn counted(off: Off) -> usize
     usize::from(off != Off::Back)
 }
 
-// How many squares are off between a row of what was seen and the one below it. The loop is over squares by their number: windows of
-// the two rows would be read by number again.
+// How many squares are off between a row of what was seen and the one below it: a square is a window of the one over a window of the
+// other.
 fn row_off(turn: u32, upper: &[u32], lower: &[u32]) -> usize
     requires { Rows turn upper.now lower.now }
     ensures { result ≡ row_off turn upper.now lower.now }
 {
     let mut off = 0;
-    for x in 0..upper.len() - 1 {
-        off += counted(round_of(turn, upper[x], upper[x + 1], lower[x], lower[x + 1]));
+    for ([a, b], [c, d]) in upper.array_windows::<2>().zip(lower.array_windows::<2>()) {
+        off += counted(round_of(turn, *a, *b, *c, *d));
     }
     off
 }
@@ -85,7 +85,7 @@ impl Field {
         ensures { result ≡ squares_off (field_of self.now) }
     {
         let mut off = 0;
-        // Rows by number: windows of rows would be read by number again.
+        // Rows by number: a field is asked for them, and they are elements of no list.
         for y in 0..self.high - 1 {
             off += row_off(self.turn, self.seen_row(y), self.seen_row(y + 1));
         }

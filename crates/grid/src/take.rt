@@ -2,16 +2,16 @@
 ghost use Rattle.std.specs.Prelude.{◌≡◌, ℕ, ◌*◌, ◌≤◌, length, Some, None, IfOk, IfErr, slice_index};
 ghost use Rattle.grid.specs.Lent.{HoldsLent, IsJudged};
 
-use crate::field::Field;
+use crate::field::{Field, PLACES};
 use crate::refusal::Refusal;
 use crate::verdict::Lent;
 
 // The list by value, with 0 past its end.
-fn copied(list: &[u32]) -> [u32; 4096]
+fn copied(list: &[u32]) -> [u32; PLACES]
     requires { length list.now ≤ 4096 }
     ensures { (k : ℕ) → slice_index result k ≡ slice_index list.now k }
 {
-    let mut all = [0; 4096];
+    let mut all = [0; PLACES];
     all[..list.len()].copy_from_slice(list);
     all
 }

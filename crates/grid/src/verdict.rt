@@ -33,8 +33,8 @@ pub fn wrong_dimension(wide: u64, high: u64, turn: u64) -> Option<Dimension>
     None
 }
 
-// The first place at which a list isn't one number below the bound for each of so many places. Places are told as u64, which the language
-// makes of a usize by `as` alone.
+// The first place at which a list isn't one number below the bound for each of so many places. Places are told as u64, by `as`: a From
+// there is not, and `try_from` would tell of an error that can't be.
 pub fn first_wrong(list: &[u32], places: u64, bound: u64) -> Option<u64>
     ensures right { IfNone result (RightList places bound list.now) }
     ensures wrong { IfSome result (WrongFirst places bound list.now) }
@@ -51,7 +51,8 @@ pub fn first_wrong(list: &[u32], places: u64, bound: u64) -> Option<u64>
 }
 
 impl Lent<'_, '_, '_> {
-    // Why a field, and a room of so many numbers for its turns, are turned away: the first reason that applies.
+    // Why a field, and a room of so many numbers for its turns, are turned away: the first reason that applies. An Option, as the verdict is:
+    // `Field::take` makes its Result of it, and a `Result<(), Refusal>` would be this Option by another name.
     pub fn refusal(&self, room: u64) -> Option<Refusal>
         ensures { IsJudged self.now room result }
     {

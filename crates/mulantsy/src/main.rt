@@ -75,11 +75,8 @@ fn run(rt: &HostRuntime) -> anyhow::Result<ExitCode> {
 }
 
 fn main(rt: HostRuntime) -> anyhow::Result<ExitCode> {
-    match run(&rt) {
-        Ok(status) => Ok(status),
-        Err(e) => {
-            eprintln!(rt; "mulantsy: {e}")?;
-            Ok(ExitCode::FAILURE)
-        }
-    }
+    run(&rt).or_else(|e| {
+        eprintln!(rt; "mulantsy: {e}")?;
+        Ok(ExitCode::FAILURE)
+    })
 }

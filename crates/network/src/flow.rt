@@ -1,5 +1,5 @@
 // Flows on lent slices.
-ghost use Rattle.std.specs.Prelude.{◌≡◌, ℕ, ◌*◌, ◌^◌, ◌<◌, ◌≤◌, length, pos, ◌+ℤ◌, int_lt, slice_index_or, unsigned_abs};
+ghost use Rattle.std.specs.Prelude.{◌≡◌, ℕ, ◌*◌, ◌^◌, ◌<◌, ◌≤◌, ◌↔◌, length, pos, ◌+ℤ◌, ◌<ℤ◌, IsTrue, slice_index_or, unsigned_abs};
 ghost use Rattle.network.specs.Graph.{at, room, reduced_cost};
 ghost use Rattle.network.specs.Network.{graph};
 
@@ -16,8 +16,8 @@ pub struct Flow<'n, 'a> {
     ghost nodes_len: { length nodes.now ≡ (graph net).nodes },
 }
 
-// Adds `d` to one element.
-fn add(flow: &mut [i64], a: usize, d: i64)
+/// Adds `d`, which may be below 0, to one element.
+pub fn add(flow: &mut [i64], a: usize, d: i64)
     requires arc { a < length flow.old }
     requires small { unsigned_abs (slice_index_or flow.old a (pos 0)) ≤ 2 ^ 62 }
     requires small_change { unsigned_abs d < 2 ^ 62 }
@@ -34,7 +34,7 @@ impl Flow<'_, '_> {
     /// Whether arc `a` can take more.
     pub fn open(&self, a: usize) -> bool
         requires { a < (graph self.now.net).arcs }
-        ensures { result ≡ int_lt ((state self.now).flow a) ((graph self.now.net).limit a) }
+        ensures { IsTrue result ↔ ((state self.now).flow a <ℤ (graph self.now.net).limit a) }
     {
         self.flow[a] < self.net.arcs[a].limit
     }

@@ -7,6 +7,6 @@ mod network;
 mod node;
 
 pub use arc::Arc;
-pub use flow::Flow;
+pub use flow::{Flow, add};
 pub use network::Network;
 pub use node::Node;

@@ -11,7 +11,8 @@ use Rattle.std.proofs.lemmas.Fmt.{digits_decimal, digits_value-decimal, decimal_
 use Rattle.std.proofs.lemmas.Str.Parse.{IsNumeralModel, numerals_by_fold}
 use Rattle.std.proofs.lemmas.Bool.{and_parts, ne_eqb}
 use Rattle.std.proofs.lemmas.Bool.Decides.{nat_tests}
-use Rattle.text.specs.Numeral.{digit, numeral_on, numeral, capped, and_then}
+use Rattle.std.specs.Option.{option_and_then}
+use Rattle.text.specs.Numeral.{digit, numeral_on, numeral, capped}
 use Rattle.text.specs.Pieces.{parts, onto, pieces, filled, words}
 use Rattle.text.specs.Row.{row_onto}
 use Rattle.text.specs.declared.pieces.Mark.TheVariants.{Blank}
@@ -38,7 +39,7 @@ on_digits n [] e = refl
 on_digits n (b ∷ bs) e =
     let p = and_parts (is_ascii_digit b) (all_ascii_digits bs) e in
     let q : n * 10 + (b - 48) ≡ 10 * n + (b - 48) = omega arith in
-    ap (λ (o : Option ℕ). and_then o (λ (d : ℕ). numeral_on (n * 10 + d) bs)) (digit_is b (digit_in b p.0))
+    ap (λ (o : Option ℕ). option_and_then (λ (d : ℕ). numeral_on (n * 10 + d) bs) o) (digit_is b (digit_in b p.0))
     ∙ ap (λ (k : ℕ). numeral_on k bs) q ∙ on_digits (10 * n + (b - 48)) bs p.1
 
 numeral_digits : (ds : List ℕ) → 0 < length ds → all_ascii_digits ds ≡ true → numeral ds ≡ Some (read_on 0 ds)
@@ -121,7 +122,7 @@ row_back : (zs : List ℤ) → AllByRecursion (λ y. mag y < 2 ^ 63) zs → sign
 unfolding signed_row
 row_back [] h = refl
 row_back (z ∷ zs) h =
-    ap (λ (o : Option ℤ). and_then o (λ (k : ℤ). onto_row k (signed_row (map signed_decimal zs)))) (signed_back z h.0) ∙ ap (onto_row z) (row_back zs h.1)
+    ap (λ (o : Option ℤ). option_and_then (λ (k : ℤ). onto_row k (signed_row (map signed_decimal zs))) o) (signed_back z h.0) ∙ ap (onto_row z) (row_back zs h.1)
 
 pub rows_read_back : RowsReadBack
 rows_read_back zs h = ap signed_row (words_row zs h) ∙ row_back zs h
@@ -135,7 +136,7 @@ unfolding row_onto
 row_again ms [] h = ap (λ (x : List ℕ). Some x) (sym (append-nil ms))
 row_again ms (n ∷ ns) h =
     let c : capped 4294967295 n ≡ n = omega (arith, h.0) in
-    ap (λ (o : Option ℕ). and_then o (λ (k : ℕ). row_onto (ms ++ (capped 4294967295 k ∷ [])) (map signed_decimal (map pos ns)))) (numeral_decimal n (omega (arith, h.0)))
+    ap (λ (o : Option ℕ). option_and_then (λ (k : ℕ). row_onto (ms ++ (capped 4294967295 k ∷ [])) (map signed_decimal (map pos ns))) o) (numeral_decimal n (omega (arith, h.0)))
     ∙ ap (λ (k : ℕ). row_onto (ms ++ (k ∷ [])) (map signed_decimal (map pos ns))) c ∙ row_again (ms ++ (n ∷ [])) ns h.1 ∙ ap (λ (x : List ℕ). Some x) (append_assoc ms (n ∷ []) ns)
 
 pub rows_read_again : RowsReadAgain

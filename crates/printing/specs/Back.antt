@@ -3,7 +3,8 @@ use Rattle.std.specs.Prelude.{◌≡◌, ℕ, ◌^◌, ◌<◌, ◌≤◌, if◌
 use Rattle.std.specs.Int.Signed.{mag}
 use Rattle.std.specs.Option.{option_map}
 use Rattle.std.specs.List.{AllByRecursion}
-use Rattle.text.specs.Numeral.{numeral, and_then}
+use Rattle.std.specs.Option.{option_and_then}
+use Rattle.text.specs.Numeral.{numeral}
 use Rattle.text.specs.Pieces.{words}
 use Rattle.text.specs.Row.{row_onto}
 use Rattle.printing.specs.Rows.{row_text}
@@ -20,7 +21,7 @@ onto_row z (Some zs) = Some (z ∷ zs)
 
 unfoldable pub signed_row : List (List ℕ) → Option (List ℤ)
 signed_row [] = Some []
-signed_row (w ∷ ws) = and_then (signed_numeral w) (λ z. onto_row z (signed_row ws))
+signed_row (w ∷ ws) = option_and_then (λ z. onto_row z (signed_row ws)) (signed_numeral w)
 
 -- a printed row of numbers of 64 bits says these numbers
 abbrev pub RowsReadBack : Type 0

@@ -26,10 +26,7 @@ fn sign_at(field: &Field, x: usize, y: usize) -> char
     requires high { suc y < field.now.high }
     ensures { result ≡ sign (round (field_of field.now) x y) }
 {
-    match field.square(y * field.wide() + x) {
-        Some(off) => sign_of(off),
-        None => unreachable(),
-    }
+    sign_of(field.square(y * field.wide() + x).unwrap())
 }
 
 // Adds the signs of a row of squares. By number, since a square is no element of a list: the field is asked for each.

@@ -2,7 +2,8 @@
 use Rattle.std.proofs.Common.{◌≡◌, ℕ, ◌+◌, ◌*◌, ◌<◌, ◌≤◌, List, [], ◌∷◌, length, get_or, drop, Some, None, Option, sym, refl, ap, ◌∙◌, arith}
 use Rattle.std.specs.Option.{option_map}
 use Rattle.std.proofs.lemmas.List.{drop_more, drop_all}
-use Rattle.text.specs.Numeral.{digit, and_then, numeral_on, numeral, capped}
+use Rattle.std.specs.Option.{option_and_then}
+use Rattle.text.specs.Numeral.{digit, numeral_on, numeral, capped}
 
 abbrev top : ℕ
 top = 18446744073709551615
@@ -22,11 +23,11 @@ numeral_some (b ∷ bs) h = refl
 
 on_digit : (n b d : ℕ) (bs : List ℕ) → digit b ≡ Some d → numeral_on n (b ∷ bs) ≡ numeral_on (n * 10 + d) bs
 unfolding numeral_on
-on_digit n b d bs e = ap (λ (o : Option ℕ). and_then o (λ (k : ℕ). numeral_on (n * 10 + k) bs)) e
+on_digit n b d bs e = ap (λ (o : Option ℕ). option_and_then (λ (k : ℕ). numeral_on (n * 10 + k) bs) o) e
 
 on_other : (n b : ℕ) (bs : List ℕ) → digit b ≡ None → numeral_on n (b ∷ bs) ≡ None
 unfolding numeral_on
-on_other n b bs e = ap (λ (o : Option ℕ). and_then o (λ (k : ℕ). numeral_on (n * 10 + k) bs)) e
+on_other n b bs e = ap (λ (o : Option ℕ). option_and_then (λ (k : ℕ). numeral_on (n * 10 + k) bs) o) e
 
 on_end : (n : ℕ) → numeral_on n [] ≡ Some n
 unfolding numeral_on
@@ -35,7 +36,7 @@ on_end n = refl
 capped_more : (m n d : ℕ) → capped top m ≡ capped top n → capped top (m * 10 + d) ≡ capped top (n * 10 + d)
 capped_more m n d e = omega arith
 
-then_cap : (o : Option ℕ) (f g : ℕ → Option ℕ) → ((d : ℕ) → cap (f d) ≡ cap (g d)) → cap (and_then o f) ≡ cap (and_then o g)
+then_cap : (o : Option ℕ) (f g : ℕ → Option ℕ) → ((d : ℕ) → cap (f d) ≡ cap (g d)) → cap (option_and_then f o) ≡ cap (option_and_then g o)
 then_cap None f g h = refl
 then_cap (Some d) f g h = h d
 

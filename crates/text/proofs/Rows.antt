@@ -1,7 +1,8 @@
 -- Rows of numbers, word by word. Assumes nothing.
 use Rattle.std.proofs.Common.{◌≡◌, ℕ, List, [], ◌∷◌, ◌++◌, Some, None, Option, sym, refl, ap, ◌∙◌, arith}
 use Rattle.std.specs.Option.{option_map}
-use Rattle.text.specs.Numeral.{numeral, capped, and_then}
+use Rattle.std.specs.Option.{option_and_then}
+use Rattle.text.specs.Numeral.{numeral, capped}
 use Rattle.text.specs.Row.{row_onto}
 
 abbrev large : ℕ
@@ -22,7 +23,7 @@ onto_nil : (ns : List ℕ) → row_onto ns [] ≡ Some ns
 unfolding row_onto
 onto_nil ns = refl
 
-onto_word : (ns : List ℕ) (w : List ℕ) (ws : List (List ℕ)) → row_onto ns (w ∷ ws) ≡ and_then (numeral w) (λ n. row_onto (ns ++ (capped 4294967295 n ∷ [])) ws)
+onto_word : (ns : List ℕ) (w : List ℕ) (ws : List (List ℕ)) → row_onto ns (w ∷ ws) ≡ option_and_then (λ n. row_onto (ns ++ (capped 4294967295 n ∷ [])) ws) (numeral w)
 unfolding row_onto
 onto_word ns w ws = refl
 
@@ -32,11 +33,11 @@ row_ends ns ws o e h = sym h ∙ ap (row_onto ns) e ∙ onto_nil ns
 pub row_stops : (ns : List ℕ) (ws vs : List (List ℕ)) (w : List ℕ) (o : Option (List ℕ)) → ws ≡ w ∷ vs → None ≡ cap (numeral w) → row_onto ns ws ≡ o → o ≡ None
 row_stops ns ws vs w o e q h =
     sym h ∙ ap (row_onto ns) e ∙ onto_word ns w vs
-    ∙ ap (λ (x : Option ℕ). and_then x (λ n. row_onto (ns ++ (capped 4294967295 n ∷ [])) vs)) (cap_none (numeral w) q)
+    ∙ ap (λ (x : Option ℕ). option_and_then (λ n. row_onto (ns ++ (capped 4294967295 n ∷ [])) vs) x) (cap_none (numeral w) q)
 
 pub row_more : (ns ms : List ℕ) (ws vs : List (List ℕ)) (w : List ℕ) (n : ℕ) → ws ≡ w ∷ vs → Some n ≡ cap (numeral w) → ms ≡ ns ++ (capped 4294967295 n ∷ []) → row_onto ms vs ≡ row_onto ns ws
 row_more ns ms ws vs w n e q t =
     let k = cap_some (numeral w) n q in
     let small : capped 4294967295 n ≡ capped 4294967295 k.0 = omega (arith, k.2) in
     ap (λ (x : List ℕ). row_onto x vs) (t ∙ ap (λ (x : ℕ). ns ++ (x ∷ [])) small)
-    ∙ sym (ap (λ (x : Option ℕ). and_then x (λ n. row_onto (ns ++ (capped 4294967295 n ∷ [])) vs)) k.1) ∙ sym (onto_word ns w vs) ∙ ap (row_onto ns) (sym e)
+    ∙ sym (ap (λ (x : Option ℕ). option_and_then (λ n. row_onto (ns ++ (capped 4294967295 n ∷ [])) vs) x) k.1) ∙ sym (onto_word ns w vs) ∙ ap (row_onto ns) (sym e)

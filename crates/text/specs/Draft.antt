@@ -6,7 +6,8 @@ use Rattle.text.specs.declared.fault.Fault.TheVariants.{Unreadable, Memory}
 use Rattle.text.specs.declared.kind.Kind.{Kind}
 use Rattle.text.specs.declared.kind.Kind.TheVariants.{Nothing, Turn, Price, Squares, Row}
 use Rattle.text.specs.Kind.{kind_of}
-use Rattle.text.specs.Numeral.{capped, largest_entry, and_then}
+use Rattle.std.specs.Option.{option_and_then}
+use Rattle.text.specs.Numeral.{capped, largest_entry}
 use Rattle.text.specs.Pieces.{words}
 use Rattle.text.specs.Row.{row_onto}
 
@@ -44,7 +45,7 @@ abbrev pub as_wide : Notes → ℕ → List ℕ → Option Notes
 as_wide d w all = if d.wide == 0 || w == d.wide then Some (record d { wide = w; numbers = all }) else None
 
 abbrev pub with_row : Notes → List (List ℕ) → Option Notes
-with_row d ws = and_then (row_onto d.numbers ws) (λ all. as_wide d (length all - length d.numbers) all)
+with_row d ws = option_and_then (λ all. as_wide d (length all - length d.numbers) all) (row_onto d.numbers ws)
 
 abbrev pub step_by : Notes → List (List ℕ) → Kind → Option Notes
 step_by d ws Nothing = Some d
@@ -55,7 +56,7 @@ step_by d ws Row = with_row d ws
 
 -- one line more; None where it can't be read
 abbrev pub step : Notes → List ℕ → Option Notes
-step d line = and_then (kind_of (words line)) (step_by d (words line))
+step d line = option_and_then (step_by d (words line)) (kind_of (words line))
 
 -- the draft is what is there, or it can't be read and nothing is there, unless there is no memory for it
 abbrev pub Drafted : Option Notes → Result Draft Fault → Type 0

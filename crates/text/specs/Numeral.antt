@@ -1,4 +1,5 @@
 -- Numbers written in decimal digits. Assumes nothing: these are definitions.
+use Rattle.std.specs.Option.{option_and_then}
 use Rattle.std.specs.Prelude.{ℕ, ◌+◌, ◌-◌, ◌*◌, min, if◌then◌else◌, ◌&&◌, List, [], ◌∷◌, Some, None, Option, nat_le}
 
 abbrev pub digit : ℕ → Option ℕ
@@ -11,15 +12,10 @@ largest = 18446744073709551615
 abbrev pub largest_entry : ℕ
 largest_entry = 4294967295
 
--- what f makes of what is there
-abbrev pub and_then : {A B : Type 0} → Option A → (A → Option B) → Option B
-and_then None f = None
-and_then (Some a) f = f a
-
 -- the number that digits make after the number so far
 unfoldable pub numeral_on : ℕ → List ℕ → Option ℕ
 numeral_on n [] = Some n
-numeral_on n (b ∷ bs) = and_then (digit b) (λ d. numeral_on (n * 10 + d) bs)
+numeral_on n (b ∷ bs) = option_and_then (λ d. numeral_on (n * 10 + d) bs) (digit b)
 
 -- the number that a word of digits writes
 unfoldable pub numeral : List ℕ → Option ℕ

@@ -118,10 +118,10 @@ pub fn read(heap: Global, text: &[u8]) -> Result<Document, Unread>
 {
     let mut draft = Draft::new(heap);
     for (number, line) in Lines(text).enumerate() {
-        draft = match draft.with_line(line) {
-            Ok(next) => next,
-            Err(fault) => return Err(fault.at(number as u64)),
-        };
+        let at_line = |fault: Fault| -> Unread
+            ensures { result ≡ stopped_at fault number }
+        { fault.at(number as u64) };
+        draft = draft.with_line(line).map_err(at_line)?;
     }
     Ok(draft.finished(heap)?)
 }

@@ -22,6 +22,7 @@ pub struct Draft {
     pub(crate) numbers: Vec<u32>,
 }
 
+// A line, and where a document is finished the heap, is one thing more beside the draft: it is looked at once, and no struct would keep a fact of it.
 impl Draft {
     // Before the first line.
     pub fn new(heap: Global) -> Draft

@@ -38,10 +38,7 @@ pub fn kind_of(line: &[u8]) -> Option<Kind>
         [b'#', ..] => Some(Kind::Nothing),
         b"turn" => Some(Kind::Turn(only_number(rest)?)),
         b"price" => Some(Kind::Price(only_number(rest)?)),
-        b"squares" => match next_word(rest) {
-            None => Some(Kind::Squares),
-            Some(_) => None,
-        },
+        b"squares" => next_word(rest).is_none().then_some(Kind::Squares),
         _ => Some(Kind::Row),
     }
 }

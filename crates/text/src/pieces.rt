@@ -1,5 +1,5 @@
 // Lines and words: the pieces of a text between marks.
-ghost use Rattle.std.specs.Prelude.{◌≡◌, ℕ, ◌+◌, ◌<◌, ◌≤◌, true, false, ◌∷◌, length, take, drop, slice_index};
+ghost use Rattle.std.specs.Prelude.{◌≡◌, ℕ, ◌+◌, ◌<◌, ◌≤◌, IsTrue, IsFalse, ◌∷◌, length, take, drop, slice_index};
 ghost use Rattle.std.specs.Iterator.{YieldsFirstBy, item_count};
 ghost use Rattle.text.specs.Pieces.{parts, pieces, lines, words, First};
 
@@ -26,8 +26,8 @@ impl Mark {
 // How many bytes come before the first that parts two pieces.
 fn piece_len(mark: Mark, text: &[u8]) -> usize
     ensures within { result ≤ length text.now }
-    ensures before { (k : ℕ) → k < result → parts mark (slice_index text.now k) ≡ false }
-    ensures found { result < length text.now → parts mark (slice_index text.now result) ≡ true }
+    ensures before { (k : ℕ) → k < result → IsFalse (parts mark (slice_index text.now k)) }
+    ensures found { result < length text.now → IsTrue (parts mark (slice_index text.now result)) }
 {
     let first = text.iter().position(|b| mark.parts(*b));
     first.unwrap_or(text.len())

@@ -1,6 +1,8 @@
 // Numbers that look random, the same at every run.
-ghost use Rattle.std.specs.Prelude.{◌≡◌, ℕ, ◌*◌, ◌<◌, ◌≤◌, slice_index};
+ghost use Rattle.std.specs.Prelude.{◌≡◌, ℕ, ◌*◌, ◌<◌, ◌≤◌, Some, slice_index};
 ghost use Rattle.trial_runs.specs.Drawn.{name_of};
+
+use std::fmt;
 
 // A linear congruential generator.
 #[derive(Drop)]
@@ -50,7 +52,7 @@ impl Draws {
 }
 
 // What prices are drawn from.
-#[derive(Clone, Copy)]
+#[derive(Clone, Copy, PartialEq, Eq, Debug)]
 pub enum Prices {
     One,
     Few,
@@ -59,7 +61,7 @@ pub enum Prices {
 }
 
 impl Prices {
-    // A price, each kind in its own way.
+    // A price, each kind in its own way. What draws is handed on beside the kind: it draws for others in between.
     fn draw(self, draws: &mut Draws) -> u32
         ensures { result ≤ 1000 }
     {
@@ -97,5 +99,13 @@ impl Prices {
             Prices::Any => "0 to 1000",
             Prices::MostlyNone => "mostly 0",
         }
+    }
+}
+
+impl fmt::Display for Prices {
+    ghost output = { λ prices. Some (name_of prices) };
+
+    fn fmt<W: fmt::Write>(&self, f: &mut fmt::Formatter<W>) -> fmt::Result {
+        f.write_str(self.name())
     }
 }

@@ -83,8 +83,7 @@ fn main(rt: HostRuntime) -> io::Result<()> {
     let mut total = Counts::default();
     for prices in [Prices::One, Prices::Few, Prices::Any, Prices::MostlyNone] {
         let counts = try_prices(&rt, &mut draws, prices)?;
-        let name = prices.name();
-        println!(rt; "prices {name}: {counts}")?;
+        println!(rt; "prices {prices}: {counts}")?;
         total.add_all(&counts);
     }
     println!(rt; "{total}")

@@ -8,5 +8,6 @@ use unwrap::Done;
 pub fn left_alone(done: Done, room: &[i64], mark: i64) -> bool
     ensures { IsTrue result ↔ LeftAlone done room.now mark }
 {
+    // 4 is what a room is turned away with. `Done` has the number: the project fixes its form.
     done == Done::Refused(4) && room.iter().all(|turns| *turns == mark)
 }

@@ -7,7 +7,8 @@ use grid::verdict::Lent;
 use std::fmt;
 use unwrap::{Done, put_back};
 
-// Three lists, as the entry takes them.
+// Three lists, as the entry takes them, each of six and of which so many count: a Vec for each could run out of memory at each draw, and the
+// clause of a draw would tell of that too.
 #[derive(Drop)]
 pub struct Trial {
     pub wide: u64,
@@ -114,13 +115,10 @@ impl Trial {
     pub fn is_off(&self) -> bool
         ensures { SaysOff self.now result }
     {
-        match self.field() {
-            Some(field) => field.squares_off() > 0,
-            None => false,
-        }
+        self.field().is_some_and(|field| field.squares_off() > 0)
     }
 
-    // What putting turns back into it answers.
+    // What putting turns back into it answers. The entry takes seven, as the project fixes it.
     pub fn put_back(&self, room: &mut [i64]) -> Done
         ensures refused { RefusedSays (verdict_of self.now (length room.old)) room.old result room.new }
         ensures back { BackSays (verdict_of self.now (length room.old)) (field_lent self.now) result room.new }

@@ -9,7 +9,7 @@ mod tests {
     use std::test::Fail;
     use text::document::Unread;
 
-    // The number and the place of a refusal; None where the text is taken.
+    // The number and the place of a refusal; None where the text is taken. Here and below the heap is handed on with a text to one call.
     fn refused(heap: Global, text: &[u8]) -> Option<(u64, u64)> {
         match answer_to_text(heap, text, View::Heights(Form::Rows)) {
             Err(Unread::Refused(refusal)) => Some((refusal.number(), refusal.place())),
@@ -19,10 +19,7 @@ mod tests {
 
     // Whether a text has this answer.
     fn answers(heap: Global, text: &[u8], view: View, answer: &str) -> bool {
-        match answer_to_text(heap, text, view) {
-            Ok(said) => said.as_str() == answer,
-            Err(_) => false,
-        }
+        answer_to_text(heap, text, view).is_ok_and(|said| said.as_str() == answer)
     }
 
     // Whether a text has these heights and cost.

@@ -38,10 +38,7 @@ fn cost_of(field: &Field, code: u64) -> u64
     let mut room = [0; MOST];
     let turns = &mut room[0..field.places()];
     write_turns(code, turns);
-    match cost(field, turns) {
-        Some(cost) => cost,
-        None => unreachable(),
-    }
+    cost(field, turns).unwrap()
 }
 
 // The least cost of the turns of the first so many codes. The codes are what is tried, and stand in no list.

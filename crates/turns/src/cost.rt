@@ -13,9 +13,10 @@ use grid::field::Field;
 use grid::rows::row_of;
 
 // The most turns, either way, of which the cost is told.
-pub const MOST: u64 = 1048576;
+pub const MOST: u64 = 1 << 20;
 
-// Whether there is a number for each place, none beyond the most.
+// Whether there is a number for each place, none beyond the most. A field and a room of which that holds are `Turned`; here and where the
+// cost is asked for it is what is found out.
 fn room_fits(field: &Field, room: &[i64]) -> bool
     ensures { IsTrue result ↔ RoomFits (field_of field.now) room.now }
 {

@@ -3,23 +3,23 @@ ghost use Rattle.std.specs.Prelude.{◌≡◌, ℕ, ◌*◌, ◌<◌, ◌≤◌,
 ghost use Rattle.turns.specs.Follow.{StepsSmall, Follows, Integrated, Expected};
 ghost use Rattle.grid.specs.Model.{field_of, HasRight, HasBelow, turns_right_from, turns_below_from};
 
-use grid::field::Field;
+use grid::field::{Field, PLACES};
 use grid::rows::row_of;
 
 // Steps in whole turns from each place, to the right and down, row by row; 0 past the last place. Two lists, since a row of one of them
 // is handed on by itself, as a field's lists are.
 #[derive(Clone, Copy)]
 pub struct Steps {
-    pub right: [i64; 4096],
-    pub below: [i64; 4096],
+    pub right: [i64; PLACES],
+    pub below: [i64; PLACES],
 }
 
-// What is told of each place.
-fn listed<F: Fn(usize) -> i64>(told: F) -> [i64; 4096]
+// What is told of each place. `array::from_fn` was tried: its clause is written out for each of the 4,096, and the check ran out of memory.
+fn listed<F: Fn(usize) -> i64>(told: F) -> [i64; PLACES]
     requires { F.IsAlwaysCallable told }
     ensures { (p : ℕ) → p < 4096 → F.post told p (slice_index_or result p (pos 0)) }
 {
-    let mut all = [0; 4096];
+    let mut all = [0; PLACES];
     for (place, turns) in all.iter_mut().enumerate() {
         *turns = told(place);
     }
@@ -56,6 +56,7 @@ fn follow_row(start: i64, steps: &[i64], row: &mut [i64])
     ensures small { (k : ℕ) → unsigned_abs (slice_index_or row.new k (pos 0)) ≤ 1024000 }
 {
     let mut at = start;
+    // Steps by number: over `row.iter_mut().zip(steps)` the proof did not close, since nothing is known of what such a loop has written.
     for (x, turns) in row.iter_mut().enumerate() {
         *turns = at;
         at += steps[x];

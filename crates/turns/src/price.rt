@@ -41,8 +41,8 @@ fn across(turn: u32, upper: Line<'_, '_>, lower: Line<'_, '_>, prices: &[u32], x
     step_cost(turn, prices[x], upper.at(x), lower.at(x))
 }
 
-// What the steps to the right in one row cost. The loop is over steps by their number: each has two places of the row, and windows of
-// the row would be read by number again.
+// What the steps to the right in one row cost. The loop is over steps by their number: a place is in two lists, and windows of both
+// zipped with the prices would be three iterators in one, and no plainer.
 pub fn row_cost(turn: u32, line: Line<'_, '_>, prices: &[u32]) -> u64
     requires prices_fit { PricesFit (length line.seen.now) prices.now }
     ensures is { result ≡ row_cost turn line.entry.seen.now line.entry.turns.now prices.now }

@@ -76,7 +76,7 @@ fit_of f es s = record {
     both a b p q = omega (arith, ints)
 
     lie : (e : ℕ) → e < es.count → Lawful (places (field_of f)) (squares_edges (field_of f)) e
-    lie e l = edges_lie (field_of f) f.wide_fits.0 f.high_fits.0 (λ x y i j. (omega (arith, f.right_fits (y * f.wide + x)), omega (arith, f.below_fits (y * f.wide + x)))) e (subst (λ (n : ℕ). e < n) s.count_is l)
+    lie e l = edges_lie (field_of f) f.wide_some f.high_some (λ x y i j. (omega (arith, f.right_fits (y * f.wide + x)), omega (arith, f.below_fits (y * f.wide + x)))) e (subst (λ (n : ℕ). e < n) s.count_is l)
 
 pub built_of : (f : Field) (es : Edges) (g : Graph) (arc : ℕ → ℕ) → AreSquares f es → Built es g arc → Built (squares_edges f) g arc
 built_of f es g arc s b = record {

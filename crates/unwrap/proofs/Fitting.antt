@@ -8,14 +8,14 @@ use Rattle.squares.specs.Squares.{places}
 
 pub field_fit : (f : Held) → Fit (field_of f)
 field_fit f = record {
-  turn_2 = f.turn_fits.0;
-  wide_1 = f.wide_fits.0;
-  high_1 = f.high_fits.0;
+  turn_2 = f.turn_some;
+  wide_1 = f.wide_some;
+  high_1 = f.high_some;
   small = λ x y k l. f.seen_fits (y * f.wide + x);
 }
 
 pub some_places : (f : Held) → 0 < places (field_of f)
-some_places f = omega (arith, mul-add-lt 0 f.wide 0 f.high f.high_fits.0 f.wide_fits.0)
+some_places f = omega (arith, mul-add-lt 0 f.wide 0 f.high f.high_some f.wide_some)
 
 pub few_places : (f : Held) → places (field_of f) ≤ 4096
-few_places f = mul-le f.wide f.high 64 64 f.wide_fits.1 f.high_fits.1
+few_places f = mul-le f.wide f.high 64 64 f.wide_fits f.high_fits

@@ -1,8 +1,7 @@
 -- The edges of a field's squares, as loops list them.
-use Rattle.std.proofs.Common.{◌≡◌, ℕ, ◌+◌, ◌/◌, ◌%◌, ◌<◌, ◌≤◌, List, length, get_or, set, pos, Some, None, Option, unwrap_or, sym, ap, ◌∙◌, subst, ⊎_elim, mul_comm, add-one, arith, get_or-set_other, get_or-set_same}
+use Rattle.std.proofs.Common.{◌≡◌, ℕ, ◌+◌, ◌/◌, ◌%◌, ◌<◌, ◌≤◌, List, length, get_or, set, pos, sym, ap, ◌∙◌, subst, ⊎_elim, mul_comm, add-one, arith, get_or-set_other, get_or-set_same}
 use Rattle.std.proofs.lemmas.Bool.{cases_eq}
 use Rattle.std.proofs.lemmas.Nat.{mod_below, div_below, div-add-mod'}
-use Rattle.std.specs.Option.{SomeIff}
 use Rattle.grid.specs.Field.{Field}
 use Rattle.squares.specs.Squares.{node, places, squares_edges}
 use Rattle.squares.proofs.Squares.{Joins, right_edge, below_edge}
@@ -78,8 +77,3 @@ pub joins_below : (f : Field) (p : ℕ) → 1 ≤ f.wide → p < places f →
 joins_below f p l k =
     rw (add-one (p % f.wide), add-one (p / f.wide))
     (at_edge f _ (places f + p) _ _ _ (ap (λ (e : ℕ). places f + e) (div-add-mod' p f.wide)) (below_edge f (p % f.wide) (p / f.wide) (column_in f p l) (row_in f p l k)))
-
--- a price that is there
-pub price_told : (P : Type 0) (o : Option ℕ) (v : ℕ) → SomeIff o P v → P → unwrap_or o 0 ≡ v
-price_told P None v c h = absurd (c h)
-price_told P (Some x) v c h = c.1

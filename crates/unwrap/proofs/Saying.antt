@@ -1,5 +1,5 @@
 -- What the entry says, by whether the field was taken.
-use Rattle.std.proofs.Common.{◌≡◌, ℕ, List, length, ℤ, Some, None, Option, SomeIff, ap, ◌∙◌, subst, arith}
+use Rattle.std.proofs.Common.{◌≡◌, ℕ, List, length, ℤ, Some, None, Option, ap, ◌∙◌, subst, arith}
 use Rattle.grid.specs.declared.refusal.Refusal.{Refusal}
 use Rattle.grid.specs.Field.{Field, field_in, turns_in}
 use Rattle.grid.specs.Verdict.{verdict}
@@ -75,7 +75,3 @@ says_found w h t ss rs bs room (Back c) left (j, (f, holds, p)) =
     subst (λ (u : Option Refusal). FoundSays u (field_in w h t ss rs bs) left) (judged_is w h t ss rs bs (length room) None j)
     (λ priced s a b. found_again (field_in w h t ss rs bs) s (turns_in w left) (fit_in w h t ss rs bs f holds) priced a b
     (subst (λ (k : Field). Least k (turns_in k.wide left)) (holds_is w h t ss rs bs f holds) p.least))
-
--- what is told where something is
-pub told_some : {A : Type 0} (P : Type 0) (o : Option A) (x v : A) → o ≡ Some x → SomeIff o P v → x ≡ v
-told_some {A} P o x v e h = (subst (λ (p : Option A). SomeIff p P v) e h).1

@@ -1,5 +1,5 @@
 -- What nodes supply, as a loop writes it.
-use Rattle.std.proofs.Common.{true, ◌≡◌, ℕ, suc, pred, ◌+◌, ◌*◌, ◌/◌, ◌%◌, ◌<◌, ◌≤◌, List, length, set, ℤ, pos, ◌+ℤ◌, ◌*ℤ◌, neg_ℤ, nat_abs, sym, ap, ◌∙◌, subst, ap₂, ⊎_elim, arith, get_or-set_other, get_or-set_same}
+use Rattle.std.proofs.Common.{◌≡◌, ℕ, suc, pred, ◌+◌, ◌*◌, ◌/◌, ◌%◌, ◌<◌, ◌≤◌, List, length, set, ℤ, pos, ◌+ℤ◌, ◌*ℤ◌, neg_ℤ, nat_abs, sym, ap, ◌∙◌, subst, ap₂, ⊎_elim, arith, get_or-set_other, get_or-set_same}
 use Rattle.std.proofs.lemmas.Int.{ints}
 use Rattle.std.proofs.lemmas.Bool.{cases_eq}
 use Rattle.sums.specs.Sum.{sum_ℤ}
@@ -14,7 +14,6 @@ use Rattle.squares.proofs.Supply.{off_turns, square_supply_corner, square_supply
 use Rattle.laws.specs.Cost.{off, turn_steps}
 use Rattle.grid.specs.Square.{HasSquare}
 use Rattle.std.proofs.lemmas.Nat.{mod_below}
-use Rattle.std.specs.Prelude.{Option, Some, None, IfNone, IsSome}
 use Rattle.unwrap.proofs.Listing.{row_in}
 
 -- the first so many nodes have what their squares supply, and this is what they supply in all
@@ -65,8 +64,3 @@ square_there f v p c e =
     let column : p % f.wide ≡ pred (v % f.wide) = ap (λ (i : ℕ). i % f.wide) e ∙ first_column f.wide f.high v c in
     let line : p / f.wide ≡ pred (v / f.wide) = ap (λ (i : ℕ). i / f.wide) e ∙ first_row f.wide f.high v c in
     (omega (arith, column, c.x_some, c.x_below), omega (arith, line, c.y_some, c.y_below))
-
--- what is there where it can't lack
-pub some_of : {A P : Type 0} (o : Option A) → IfNone o (P → ⊥) → P → IsSome o
-some_of None h p = absurd (h p)
-some_of (Some x) h p = λ i. true

@@ -13,10 +13,15 @@ use crate::cross::add_flows;
 use crate::list::list_edges;
 use crate::settle::settle_squares;
 use edges::{ArcLists, Edge, EdgeList, group};
-use grid::field::Field;
+use grid::field::{Field, PLACES};
 use network::{Arc, Flow, Network, Node};
 use turns::follow::Steps;
 use ways::{Mark, Search};
+
+// Two edges for each place, across the step to the right and the one down, and two arcs for each edge.
+const EDGES: usize = 2 * PLACES;
+
+const ARCS: usize = 2 * EDGES;
 
 // Adds to the steps that are expected of a field what goes across them in a settled flow.
 fn cross_squares(field: &Field, net: Network<'_>, arc_of: &[usize], steps: &mut Steps)
@@ -28,10 +33,10 @@ fn cross_squares(field: &Field, net: Network<'_>, arc_of: &[usize], steps: &mut 
     ensures { LeastSteps (field_of field.now) steps.new.right steps.new.below }
 {
     let n = field.places();
-    let mut across = [0; 16384];
-    let mut nodes = [Node::default(); 4096];
-    let mut marks = [Mark::default(); 4096];
-    let mut order = [0; 4096];
+    let mut across = [0; ARCS];
+    let mut nodes = [Node::default(); PLACES];
+    let mut marks = [Mark::default(); PLACES];
+    let mut order = [0; PLACES];
     let mut flow = Flow {
         net,
         flow: &mut across[..net.arcs.len()],
@@ -54,10 +59,10 @@ fn settle_edges(field: &Field, edges: &[Edge], steps: &mut Steps)
     let n = field.places();
     let count = edges.len();
     let ends = count + count;
-    let mut first = [0; 4097];
-    let mut next = [0; 4096];
-    let mut arcs = [Arc::default(); 16384];
-    let mut arc_of = [0; 8192];
+    let mut first = [0; PLACES + 1];
+    let mut next = [0; PLACES];
+    let mut arcs = [Arc::default(); ARCS];
+    let mut arc_of = [0; EDGES];
     let first = &mut first[..n + 1];
     let arcs = &mut arcs[..ends];
     let arc_of = &mut arc_of[..count];
@@ -77,7 +82,7 @@ pub fn least_steps(field: &Field) -> Steps
     ensures { LeastSteps (field_of field.now) result.right result.below }
 {
     let mut steps = Steps::expected(field);
-    let mut edges = [Edge::default(); 8192];
+    let mut edges = [Edge::default(); EDGES];
     let edges = &mut edges[..2 * field.places()];
     list_edges(field, edges);
     settle_edges(field, edges, &mut steps);

@@ -9,7 +9,7 @@ use edges::Edge;
 use grid::field::Field;
 
 // More than can ever go along an edge.
-const NO_LIMIT: i64 = 1152921504606846976;
+const NO_LIMIT: i64 = 1 << 60;
 
 // The square whose last corner is at column x and row y has the number of that place, and all that is outside has 0.
 fn node(wide: usize, high: usize, x: usize, y: usize) -> usize
@@ -38,8 +38,8 @@ fn crossing(from: usize, to: usize, price: u32) -> Edge
     }
 }
 
-// The edge across the step to the right from a place: from the square below the step to the one above. Its ends are others than those of
-// an edge across a step down, and what they share is `crossing`.
+// The edge across the step to the right from a place: from the square below the step to the one above. Its ends and its
+// price are others than those of an edge across a step down; what they share is `crossing`, and where the place lies.
 fn edge_right(field: &Field, place: usize) -> Edge
     requires { place < places (field_of field.now) }
     ensures { IsEdge (squares_edges (field_of field.now)) place result }

@@ -1,7 +1,10 @@
 -- The end of a node's arcs, the next node reached, and the beginning of a search.
-use Rattle.std.proofs.Common.{◌≡◌, ℕ, ◌+◌, ◌<◌, ◌≤◌, ◌⊎◌, pos, ◌+ℤ◌, ◌≤ℤ◌, ◌<ℤ◌, sym, ap, ◌∙◌, inl, inr, arith}
+use Rattle.std.proofs.Common.{◌≡◌, ℕ, ◌+◌, ◌<◌, ◌≤◌, ◌⊎◌, ℤ, pos, ◌+ℤ◌, ◌≤ℤ◌, ◌<ℤ◌, Option, Some, None, SomeIff, sym, refl, ap, ◌∙◌, inl, inr, arith}
 use Rattle.std.proofs.lemmas.Int.{ints}
 use Rattle.std.proofs.lemmas.Bool.{cases_eq, cases_lt}
+use Rattle.std.specs.Bool.{then_some}
+use lib.Signed.{lt_z}
+use Rattle.network.proofs.Points.{lt_yes, lt_no, cases_lt_ℤ}
 use Rattle.network.specs.Graph.{Graph, Laws, reduced_cost}
 use Rattle.network.specs.Sound.{State, Sound}
 use Rattle.ways.specs.Tree.{Tree, Parent, Relaxed, Aim, far, Searching, InHand, Advanced, Begun}
@@ -158,3 +161,10 @@ begins g s t h e b =
       where
         same : t.place v ≡ t.place t.source
         same = omega (arith, p, b.seen, b.at_source)
+
+-- what is found where it is nearer than all, as it is seen in 64 bits
+pub nearer_found : (b l m : ℤ) (v : ℕ) → l ≡ b → SomeIff (then_some (lt_z l m) v) (b <ℤ m) v
+nearer_found b l m v e = elim (cases_lt_ℤ b m) [
+  | inl h ↦ rw (lt_yes l m (omega (arith, ints, h, e))) (h, refl)
+  | inr h ↦ rw (lt_no l m (omega (arith, ints, h, e))) (λ k. omega (arith, ints, h, k))
+]

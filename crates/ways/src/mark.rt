@@ -12,17 +12,35 @@ pub struct Mark {
 ghost use Rattle.ways.specs.Mark.{label_of, via_of, place_of, node_at, Arranged, Exchanged, Labelled};
 
 // Marks by node and nodes by place are two lists, since both ways are asked. Here and below that they are as long is a clause; the search
-// that has both keeps it by its type.
+// that has both keeps it by its type. Functions and no methods of the search: there each single write would have to keep that type.
+
+// Puts each node at its own number.
+fn number(order: &mut [usize])
+    ensures len { length order.new ≡ length order.old }
+    ensures at { (k : ℕ) → k < length order.old → node_at order.new k ≡ k }
+{
+    for (k, node) in order.iter_mut().enumerate() {
+        *node = k;
+    }
+}
+
+// Lets each node know its own number as its place.
+fn place(marks: &mut [Mark])
+    ensures len { length marks.new ≡ length marks.old }
+    ensures at { (v : ℕ) → v < length marks.old → place_of marks.new v ≡ v }
+{
+    for (v, mark) in marks.iter_mut().enumerate() {
+        mark.place = v;
+    }
+}
 
 // Lets each node stand at its own number.
 pub(crate) fn arrange(marks: &mut [Mark], order: &mut [usize])
     requires { length marks.old ≡ length order.old }
     ensures { Arranged (length order.new) (place_of marks.new) (node_at order.new) }
 {
-    for (k, node) in order.iter_mut().enumerate() {
-        *node = k;
-        marks[k].place = k;
-    }
+    number(order);
+    place(marks);
 }
 
 // Lets the nodes at places `i` and `j` change places.
@@ -41,7 +59,7 @@ pub(crate) fn exchange(marks: &mut [Mark], order: &mut [usize], i: usize, j: usi
     marks[order[j]].place = j;
 }
 
-// Gives node `v` the label `d`, by arc `a`.
+// Gives node `v` the label `d`, by arc `a`. The three are handed on as they are: each is of another list, and all are written at once.
 pub(crate) fn relabel(marks: &mut [Mark], v: usize, a: usize, d: i64)
     requires { v < length marks.old }
     ensures place { (w : ℕ) → place_of marks.new w ≡ place_of marks.old w }

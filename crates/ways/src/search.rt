@@ -240,10 +240,6 @@ impl<'m, 'o> Search<'m, 'o> {
         while let Some(u) = self.advance() {
             self.scan(flow, u);
         }
-        if self.bound < FAR {
-            Some(self.target)
-        } else {
-            None
-        }
+        (self.bound < FAR).then_some(self.target)
     }
 }

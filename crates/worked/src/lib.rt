@@ -40,10 +40,8 @@ mod tests {
             right: &prices[0..places],
             below: &prices[0..places],
         };
-        match Field::take(&lent, places as u64) {
-            Ok(field) => Some(field.squares_off()),
-            Err(_) => None,
-        }
+        let field = Field::take(&lent, places as u64).ok()?;
+        Some(field.squares_off())
     }
 
     #[test]

@@ -15,4 +15,4 @@ pub returns-clause-least : goal.returns-clause-least
 returns-clause-least c =
     let f = c.args.field.now in
     let all : c.pow.result ≡ 5 ^ (f.wide * f.high) = c.pow.ensures ∙ ap (λ (n : ℕ). 5 ^ n) c.places-places.ensures in
-    all_coded (field_of f) c.least_of.result f.wide_fits.0 (subst (λ (n : ℕ). LeastOf (λ k. cost (field_of f) (turns_of f.wide k)) n c.least_of.result) all c.least_of.ensures)
+    all_coded (field_of f) c.least_of.result f.wide_some (subst (λ (n : ℕ). LeastOf (λ k. cost (field_of f) (turns_of f.wide k)) n c.least_of.result) all c.least_of.ensures)

@@ -1,10 +1,11 @@
-use Rattle.std.proofs.Common.{◌≡◌, ◌∷◌, ◌∙◌, ◌+◌, ◌≤◌, ap, length, arith, rules, inl}
+use Rattle.std.proofs.Common.{◌≡◌, ◌∷◌, ◌∙◌, ◌+◌, ◌≤◌, sym, ap, length, arith, rules, inl}
+use Rattle.std.proofs.lemmas.Result.{err_from_is_err_and}
 use Rattle.text.specs.Pieces.{lines}
 use Rattle.text.specs.Draft.{notes}
 use Rattle.text.specs.Document.{contents, stopped_at}
 use Rattle.text.specs.declared.pieces.Mark.TheVariants.{Newline}
 use Rattle.text.proofs.Cuts.{length_pieces}
-use Rattle.text.proofs.Reader.{read_ends, read_stops, read_more}
+use Rattle.text.proofs.Reader.{read_ends, read_more, told_stops, told_more}
 use Rattle.text.proofs.document.read.Goals as goal
 
 pub loop-number-init : goal.loop-number-init
@@ -19,12 +20,12 @@ loop-number-init c =
       read = search rules;
     }
 
-pub returns-in-Err : goal.returns-in-Err
-returns-in-Err c =
+pub returns-in_err-draft : goal.returns-in_err-draft
+returns-in_err-draft c =
     let line : c.in-Some.number ≡ c.loop-number.number-iterator.count = search rules in
     let first : lines c.loop-number.number-iterator.iter.0.now ≡ c.in-Some.line.now ∷ lines c.next.new.self.iter.0.now = search rules in
-    let stop : c.at.result ≡ stopped_at c.in-Err.fault c.loop-number.number-iterator.count = cc in
-    rw stop (read_stops c.loop-number.number-iterator.count (notes c.loop-number.draft) _ (lines c.next.new.self.iter.0.now) c.in-Some.line.now _ c.in-Err.fault first c.in-Err.ensures c.loop-number.invariant.read)
+    let told = err_from_is_err_and c.from_residual.result c.from_residual.ensures.1 in
+    rw (told.1, told.2) (told_stops c.in-Some.number (notes c.loop-number.draft) _ (lines c.next.new.self.iter.0.now) c.in-Some.line.now _ c.with_line.result c.map_err.result c.in_err-draft.field-0.0 first c.with_line.ensures c.map_err.ensures.cases c.in_err-draft.was (rw line c.loop-number.invariant.read))
 
 pub loop-number-preserved : goal.loop-number-preserved
 loop-number-preserved c =
@@ -35,7 +36,7 @@ loop-number-preserved c =
       can = (tt, tt, inl (omega arith));
       ends = search rules;
       fits = fits;
-      read = rw more (read_more c.loop-number.number-iterator.count (notes c.loop-number.draft) _ (lines c.next.new.self.iter.0.now) c.in-Some.line.now c.in-Ok.next first c.in-Ok.ensures ∙ c.loop-number.invariant.read);
+      read = rw more (read_more c.loop-number.number-iterator.count (notes c.loop-number.draft) _ (lines c.next.new.self.iter.0.now) c.in-Some.line.now c.in_ok-draft.draft first (told_more _ c.with_line.result c.map_err.result c.in_ok-draft.draft _ c.with_line.ensures c.map_err.ensures.cases c.in_ok-draft.was) ∙ c.loop-number.invariant.read);
     }
 
 pub returns : goal.returns

@@ -12,7 +12,7 @@ turned-requires c =
     let b : ℤ = to_z w64 (of_z w64 c.in_ok-turns.field-0.now) in
     record {
       base = omega (arith, ints, c.from.ensures);
-      turns = omega (arith, mul-le (nat_abs b) c.turn.result 1048576 65536 (omega (arith, c.unsigned_abs.ensures.value)) (omega (arith, c.turn.ensures, f.turn_fits)));
+      turns = omega (arith, mul-le (nat_abs b) c.turn.result 1048576 65536 (omega (arith, c.unsigned_abs.ensures.value)) (omega (arith, c.turn.ensures, f.turn_some, f.turn_fits)));
     }
 
 pub returns : goal.returns

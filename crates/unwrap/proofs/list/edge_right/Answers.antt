@@ -1,7 +1,8 @@
 use Rattle.std.proofs.Common.{◌≡◌, ◌+◌, ◌/◌, ◌%◌, ◌∙◌}
 use Rattle.grid.specs.Model.{field_of}
+use Rattle.grid.proofs.Told.{told_or}
 use Rattle.squares.specs.Squares.{node}
-use Rattle.unwrap.proofs.Listing.{price_told, row_in, edge_is, crosses_at, joins_right}
+use Rattle.unwrap.proofs.Listing.{row_in, edge_is, crosses_at, joins_right}
 use Rattle.unwrap.proofs.list.edge_right.Goals as goal
 
 pub returns : goal.returns
@@ -14,5 +15,5 @@ returns c =
     let b = c.node-2.ensures in
     let from : c.node.result ≡ node f.wide f.high (p % f.wide + 1) (p / f.wide + 1) = cc in
     let to : c.node-2.result ≡ node f.wide f.high (p % f.wide + 1) (p / f.wide) = cc in
-    let told = c.unwrap_or-price.ensures ∙ price_told _ c.price_right.result _ c.price_right.ensures (row_in (field_of f) p f.wide_fits.0 c.requires) in
-    edge_is (field_of f) _ _ _ _ c.crossing.result (joins_right (field_of f) p f.wide_fits.0 c.requires) (crosses_at _ _ _ _ _ _ c.crossing.result from to told c.crossing.ensures)
+    let told = c.unwrap_or-price.ensures ∙ told_or _ c.price_right.result _ 0 c.price_right.ensures (row_in (field_of f) p f.wide_some c.requires) in
+    edge_is (field_of f) _ _ _ _ c.crossing.result (joins_right (field_of f) p f.wide_some c.requires) (crosses_at _ _ _ _ _ _ c.crossing.result from to told c.crossing.ensures)

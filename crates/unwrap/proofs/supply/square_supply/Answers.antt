@@ -7,7 +7,8 @@ use Rattle.grid.specs.Square.{off_by, round_from}
 use Rattle.squares.specs.Squares.{places}
 use Rattle.squares.proofs.Squares.{Corner}
 use Rattle.grid.specs.Model.{field_of}
-use Rattle.unwrap.proofs.Supplying.{some_of, corner_at, first_place, supply_from, supply_edge, square_there}
+use Rattle.grid.proofs.Told.{some_of}
+use Rattle.unwrap.proofs.Supplying.{corner_at, first_place, supply_from, supply_edge, square_there}
 use Rattle.unwrap.proofs.supply.square_supply.Goals as goal
 use Rattle.unwrap.proofs.supply.square_supply.Goals.{then-v-wide-eq0-via-then-v-wide-eq0, then-v-wide-eq0-via-else-v-wide-eq0+then-v-wide-eq0-2}
 
@@ -26,7 +27,7 @@ returns-then-v-wide-eq0 c =
 
 corner_of : (f : Held) (v w : ℕ) → w ≡ f.wide → v < places (field_of f) → (v % w ≡ 0 → ⊥) → (v / w ≡ 0 → ⊥) → Corner f.wide f.high (v % f.wide) (v / f.wide)
 corner_of f v w e l a b =
-    corner_at (field_of f) v f.wide_fits.0 l (λ q. a (ap (λ (i : ℕ). v % i) e ∙ q)) (λ q. b (ap (λ (i : ℕ). v / i) e ∙ q))
+    corner_at (field_of f) v f.wide_some l (λ q. a (ap (λ (i : ℕ). v % i) e ∙ q)) (λ q. b (ap (λ (i : ℕ). v / i) e ∙ q))
 
 first_of : (f : Held) (v w : ℕ) → w ≡ f.wide → Corner f.wide f.high (v % f.wide) (v / f.wide) →
     (v - w - 1 ≡ pred (v / f.wide) * f.wide + pred (v % f.wide)) × (w + 1 ≤ v)
@@ -55,6 +56,6 @@ returns c =
     let f = c.args.field.now in
     let k = corner_of f c.args.v c.wide-wide.result c.wide-wide.ensures c.requires c.if-v-wide-eq0.false c.if-v-wide-eq0-2.false in
     let round = subst (λ (o : Option Off). IfSome o (λ off. round_from (field_of f) (c.args.v - c.wide-wide.result - 1) ≡ off_by off *ℤ pos f.turn)) c.unwrap.ensures c.square.ensures.round in
-    let told = supply_from (field_of f) c.args.v _ (off_by c.unwrap.result) k (first_of f c.args.v c.wide-wide.result c.wide-wide.ensures k).0 (omega (arith, f.turn_fits)) round in
+    let told = supply_from (field_of f) c.args.v _ (off_by c.unwrap.result) k (first_of f c.args.v c.wide-wide.result c.wide-wide.ensures k).0 (omega (arith, f.turn_some, f.turn_fits)) round in
     let fits : SFits w64 c.units.result = search rules in
     to_z-of_z w64 c.units.result fits ∙ c.units.ensures ∙ sym told

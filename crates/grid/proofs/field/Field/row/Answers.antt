@@ -6,4 +6,4 @@ pub row_of-requires : goal.row_of-requires
 row_of-requires c =
     let f = c.args.self.now in
     let n : length c.args.list.now ≡ 4096 = search rules in
-    omega (arith, row_held f.wide f.high c.args.y f.wide_fits.1 f.high_fits.1 c.requires)
+    omega (arith, row_held f.wide f.high c.args.y f.wide_fits f.high_fits c.requires)

@@ -6,4 +6,4 @@ use Rattle.grid.proofs.field.Field.seen_at.Goals as goal
 pub bounds-self-y : goal.bounds-self-y
 bounds-self-y c =
     let f = c.args.self.now in
-    omega (arith, few_places f.wide f.high f.wide_fits.1 f.high_fits.1, mul-add-lt c.args.y f.wide c.args.x f.high c.requires.row c.requires.column)
+    omega (arith, few_places f.wide f.high f.wide_fits f.high_fits, mul-add-lt c.args.y f.wide c.args.x f.high c.requires.row c.requires.column)

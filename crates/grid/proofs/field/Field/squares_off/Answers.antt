@@ -13,8 +13,8 @@ row_off-off-requires c =
     let upper = c.seen_row.ensures in
     let lower = c.seen_row-in-loop-y.ensures in
     record {
-      some = omega (arith, upper.long, f.wide_fits);
-      few = omega (arith, upper.long, f.wide_fits);
+      some = omega (arith, upper.long, f.wide_some, f.wide_fits);
+      few = omega (arith, upper.long, f.wide_some, f.wide_fits);
       even = omega (arith, upper.long, lower.long);
       upper_small = λ k l. omega (arith, upper.at k 0 (omega (arith, upper.long)), f.seen_fits (c.loop-y.y * f.wide + k));
       lower_small = λ k l. omega (arith, lower.at k 0 (omega (arith, upper.long)), f.seen_fits ((c.loop-y.y + 1) * f.wide + k));
@@ -29,7 +29,7 @@ step c =
 pub overflow_add-off : goal.overflow_add-off
 overflow_add-off c =
     let f = c.args.self.now in
-    omega (arith, step c, rows_most (field_of f) (c.loop-y.y + 1), mul-le (c.loop-y.y + 1) f.wide 64 64 (omega (arith, f.high_fits)) f.wide_fits.1)
+    omega (arith, step c, rows_most (field_of f) (c.loop-y.y + 1), mul-le (c.loop-y.y + 1) f.wide 64 64 (omega (arith, f.high_some, f.high_fits)) f.wide_fits)
 
 pub loop-y-preserved : goal.loop-y-preserved
 loop-y-preserved c = step c

@@ -30,4 +30,4 @@ returns c =
     let f = c.args.self.field.now in
     let e : c.loop-y.y ≡ f.high - 1 = omega (arith, c.high-y-end.ensures) in
     let s = subst (λ (y : ℕ). RowsSoFar (below_part (field_of f) (turns_in f.wide c.args.self.room.now)) y c.loop-y.cost) (e ∙ sub-one f.high) c.loop-y.invariant in
-    record { is = s.is; small = omega (arith, c.loop-y.invariant.small, f.high_fits) }
+    record { is = s.is; small = omega (arith, c.loop-y.invariant.small, f.high_some, f.high_fits) }

@@ -26,4 +26,4 @@ returns c =
     let f = c.args.self.field.now in
     let e : c.loop-y.y ≡ f.high = omega (arith, c.high-y-end.ensures) in
     let s = subst (λ (y : ℕ). RowsSoFar (right_part (field_of f) (turns_in f.wide c.args.self.room.now)) y c.loop-y.cost) e c.loop-y.invariant in
-    record { is = s.is; small = omega (arith, s.small, f.high_fits) }
+    record { is = s.is; small = omega (arith, s.small, f.high_some, f.high_fits) }
