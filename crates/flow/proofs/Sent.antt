@@ -1,7 +1,8 @@
 -- From a search that is over to the next state.
-use Rattle.std.proofs.Common.{◌≡◌, ℕ, ◌+◌, ◌^◌, ◌<◌, ◌≤◌, ℤ, pos, ◌-ℤ◌, neg_ℤ, nat_abs, ◌≤ℤ◌, ◌<ℤ◌, refl, ◌∙◌, inl, inr, arith, List, length, true, false, Option, Some, None, SomeIff, is_none}
+use Rattle.std.proofs.Common.{◌≡◌, ℕ, ◌+◌, ◌%◌, ◌^◌, ◌<◌, ◌≤◌, ◌⊎◌, ℤ, pos, ◌-ℤ◌, neg_ℤ, nat_abs, ◌≤ℤ◌, ◌<ℤ◌, refl, ◌∙◌, inl, inr, arith, List, length, true, false, Option, Some, None, SomeIff, is_none}
 use Rattle.std.proofs.Math.Path.{fun_ext}
 use Rattle.std.proofs.lemmas.Int.{ints}
+use Rattle.std.proofs.lemmas.Bool.{cases_lt}
 use borrow.Author.Differences.{up}
 use Rattle.sums.proofs.Sum.{sum_zero}
 use Rattle.network.specs.Graph.{Graph, Laws}
@@ -11,7 +12,7 @@ use Rattle.network.specs.Sound.{State, state, Sound, left, Later}
 use Rattle.network.specs.declared.flow.Flow.{Flow}
 use Rattle.network.specs.declared.node.Node.{Node}
 use Rattle.network.proofs.Points.{cases_lt_ℤ}
-use Rattle.ways.specs.Tree.{Tree, tree, far, Searching, Ended}
+use Rattle.ways.specs.Tree.{Tree, tree, Searching, Ended}
 use Rattle.ways.specs.Way.{Lowered, Found, Walking, Cut}
 use Rattle.ways.specs.declared.search.Search.{Search}
 use Rattle.ways.proofs.Potentials.{lowered_sound, lowered_found}
@@ -64,9 +65,9 @@ augmented g w s e p q o t f d more enough wanted s' same k =
     A : Augmented g (record { flow = s.flow; excess = e; potential = s.potential }) s'
     A = sent g w (record { flow = s.flow; excess = e; potential = s.potential }) p o t f d more enough wanted s' same k
 
-pub none_found : (b : ℤ) (v : ℕ) (r : Option ℕ) → SomeIff r (b <ℤ far) v → is_none r ≡ true → far ≤ℤ b
-none_found b v None h e = elim (cases_lt_ℤ b far) [ inl l ↦ absurd (h l) | inr l ↦ l ]
-none_found b v (Some x) h e = cc
+pub none_found : (b m : ℤ) (v : ℕ) (r : Option ℕ) → SomeIff r (b <ℤ m) v → is_none r ≡ true → m ≤ℤ b
+none_found b m v None h e = elim (cases_lt_ℤ b m) [ inl l ↦ absurd (h l) | inr l ↦ l ]
+none_found b m v (Some x) h e = cc
 
 pub some_found : {P : Type 0} (v : ℕ) (r : Option ℕ) → SomeIff r P v → is_none r ≡ false → P
 some_found v None h e = cc
@@ -78,7 +79,7 @@ pub record Ready (g : Graph) (s : State) (t : Tree) : Type 0 where
   pub found : Found g s t
 
 -- such is what lower potentials leave
-pub ready : (f : Flow) (q : Search) (nodes : List Node) → Sound (graph f.net) (state f) → Searching (graph f.net) (state f) (graph f.net).nodes 0 (tree q) → Ended (graph f.net).nodes (tree q) → q.bound <ℤ far
+pub ready : (f : Flow) (q : Search) (nodes : List Node) → Sound (graph f.net) (state f) → Searching (graph f.net) (state f) (graph f.net).nodes 0 (tree q) → Ended (graph f.net).nodes (tree q) → q.bound <ℤ q.within
     → Lowered (length f.nodes.now) (tree q) (potential_of f.nodes.now) (potential_of nodes) → ((v : ℕ) → excess_of nodes v ≡ excess_of f.nodes.now v)
     → Ready (graph f.net) (record { flow = (state f).flow; excess = excess_of nodes; potential = potential_of nodes }) (tree q)
 ready f q nodes o i ended found low same =
@@ -87,8 +88,12 @@ ready f q nodes o i ended found low same =
       found = lowered_found (graph f.net) f.net.formed.laws (state f) o (tree q) i ended found _ refl (fun_ext same) (rw f.nodes_len at low);
     }
 
-pub bound_fits : (g : Graph) (w : Laws g) (s : State) (o : Sound g s) (t : Tree) (i : Searching g s g.nodes 0 t) → t.bound <ℤ far → nat_abs t.bound ≤ 2 ^ 60 + 2 ^ 58
-bound_fits g w s o t i h = omega (arith, ints, (i.aims h).label, label_fits g w s o g.nodes 0 t i t.target (i.aims h).node (i.aims h).met)
+pub bound_fits : (g : Graph) (w : Laws g) (s : State) (o : Sound g s) (t : Tree) (i : Searching g s g.nodes 0 t) → t.bound <ℤ t.within → nat_abs t.bound ≤ 2 ^ 60 + 2 ^ 58
+bound_fits g w s o t i h = omega (arith, ints, (i.aims h).label, label_fits g w s o g.nodes 0 t i t.target (i.aims h).node (omega (arith, ints, (i.aims h).label, h, i.near)))
+
+-- of the numbers with the same rest the next one is STRIDE farther
+pub next_like : (v k : ℕ) → v < k + 31 → v % 31 ≡ k % 31 → (v < k) ⊎ (v ≡ k)
+next_like v k l e = elim (cases_lt v k) [ inl h ↦ inl h | inr h ↦ inr (omega (arith, l, e, h)) ]
 
 pub later_none : (g : Graph) (s : State) → Later g s s
 later_none g s = record { supplies = λ v h. refl; moved = λ a h. omega arith }

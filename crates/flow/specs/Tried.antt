@@ -19,6 +19,7 @@ pub record Fitting (g : Graph) (s : Slices) : Type 0 where
   pub nodes : length s.nodes.now ≡ g.nodes
   pub marks : length s.marks.now ≡ g.nodes
   pub order : length s.order.now ≡ g.nodes
+  pub frontier : length s.frontier.now ≡ g.nodes
 
 abbrev pub state : Slices → State
 state s =
@@ -34,6 +35,7 @@ pub record SameLoans (s s' : Slices) : Type 0 where
   pub nodes : s'.nodes.ghost_name ≡ s.nodes.ghost_name
   pub marks : s'.marks.ghost_name ≡ s.marks.ghost_name
   pub order : s'.order.ghost_name ≡ s.order.ghost_name
+  pub frontier : s'.frontier.ghost_name ≡ s.frontier.ghost_name
 
 -- what `solve` promises
 pub record Done (l : Lists) (s s' : Slices) (r : Result (Unit {0}) Stuck) : Type 0 where

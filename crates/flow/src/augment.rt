@@ -1,15 +1,15 @@
 // One way more: from a node in excess to one that lacks it.
-ghost use Rattle.std.specs.Prelude.{◌≡◌, ℕ, ◌+◌, ◌*◌, ◌^◌, ◌<◌, ◌≤◌, ◌⊎◌, length, pos, ◌+ℤ◌, neg_ℤ, ◌≤ℤ◌, ◌<ℤ◌, IfErr, OnErr, OnOk, ◌≢◌, unsigned_abs};
+ghost use Rattle.std.specs.Prelude.{◌≡◌, ℕ, ◌+◌, ◌*◌, ◌^◌, ◌<◌, ◌≤◌, ◌⊎◌, length, pos, ◌+ℤ◌, neg_ℤ, ◌≤ℤ◌, ◌<ℤ◌, IsTrue, IsFalse, ◌≢◌, unsigned_abs};
 ghost use Rattle.network.specs.Graph.{at, room};
 ghost use Rattle.network.specs.Network.{graph};
 ghost use Rattle.network.specs.Node.{excess_of, potential_of};
 ghost use Rattle.network.specs.Sound.{state, Sound};
+ghost use Rattle.ways.specs.Mark.{far};
 ghost use Rattle.ways.specs.Tree.{tree, Roomy, SameSlices};
 ghost use Rattle.ways.specs.Way.{Lowered, Found, Chain, Walking, Cut};
 ghost use Rattle.flow.specs.Answer.{Augmented};
 ghost use Rattle.flow.specs.Same.{SameFlow};
 
-use crate::stuck::Stuck;
 use crate::way::Way;
 use network::{Flow, Node};
 use ways::Search;
@@ -91,26 +91,26 @@ fn send(flow: &mut Flow, search: &Search, amount: i64)
     }
 }
 
-// Sends what goes along a cheapest way from `source`, which has something in excess, to a lacking node.
-pub(crate) fn augment(flow: &mut Flow, search: &mut Search, source: usize) -> Result<(), Stuck>
+// Sends what goes along a cheapest way from `source`, which has something in excess, to a lacking node that is nearer than `within`.
+// Whether there was one.
+pub(crate) fn augment(flow: &mut Flow, search: &mut Search, source: usize, within: i64) -> bool
     requires room { Roomy (graph flow.old.net).nodes search.old }
     requires sound { Sound (graph flow.old.net) (state flow.old) }
     requires source { source < (graph flow.old.net).nodes }
     requires excess { pos 0 <ℤ (state flow.old).excess source }
+    requires ahead { pos 0 ≤ℤ within }
+    requires near { within ≤ℤ far }
     ensures same { SameFlow flow.old flow.new }
     ensures slices { SameSlices search.old search.new }
-    ensures sent { OnOk result (Augmented (graph flow.old.net) (state flow.old) (state flow.new)) }
-    ensures kept { OnErr result (flow.new ≡ flow.old) }
-    ensures cut { OnErr result (Cut (graph flow.old.net) (state flow.old) (tree search.new)) }
-    ensures stuck { IfErr result (λ s. s.nodes ≡ search.new.reached) }
+    ensures sent { IsTrue result → Augmented (graph flow.old.net) (state flow.old) (state flow.new) }
+    ensures kept { IsFalse result → flow.new ≡ flow.old }
+    ensures cut { IsFalse result → within ≡ far → Cut (graph flow.old.net) (state flow.old) (tree search.new) }
 {
-    if search.find(flow, source).is_none() {
-        return Err(Stuck {
-            nodes: search.reached,
-        });
+    if search.find(flow, source, within).is_none() {
+        return false;
     }
     lower(flow.nodes, search);
     let amount = least_room(flow, search);
     send(flow, search, amount);
-    Ok(())
+    true
 }

@@ -21,6 +21,7 @@ pub struct Slices<'a> {
     pub nodes: &'a mut [Node],
     pub marks: &'a mut [Mark],
     pub order: &'a mut [usize],
+    pub frontier: &'a mut [usize],
 }
 
 /// Why the supplies are not met.
@@ -62,6 +63,7 @@ impl Slices<'_> {
             && self.nodes.len() == n
             && self.marks.len() == n
             && self.order.len() == n
+            && self.frontier.len() == n
     }
 
     // Whether the supplies are balanced. A method that only calls: where `try_solve` itself lends the nodes, the proof did not close, since
@@ -91,7 +93,11 @@ pub fn try_solve(lists: Lists<'_>, slices: &mut Slices) -> Result<(), Refusal>
         flow: &mut *slices.flow,
         nodes: &mut *slices.nodes,
     };
-    let mut search = Search::new(&mut *slices.marks, &mut *slices.order);
+    let mut search = Search::new(
+        &mut *slices.marks,
+        &mut *slices.order,
+        &mut *slices.frontier,
+    );
     solve(&mut flow, &mut search)?;
     Ok(())
 }

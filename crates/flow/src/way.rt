@@ -13,9 +13,9 @@ use ways::Search;
 // The arcs of the way found, from its end back to its beginning. It borrows no flow, so that one can be sent meanwhile. That each of its
 // nodes was met is kept by the type: `next` can ask for nothing.
 #[derive(Drop)]
-pub(crate) struct Way<'n, 's, 'm, 'o> {
+pub(crate) struct Way<'n, 's, 'm, 'o, 'f> {
     net: Network<'n>,
-    search: &'s Search<'m, 'o>,
+    search: &'s Search<'m, 'o, 'f>,
     at: usize,
     ghost room: { Roomy (graph net).nodes search.now },
     ghost arrivals: { Arrivals (graph net) (tree search.now) },
@@ -23,9 +23,12 @@ pub(crate) struct Way<'n, 's, 'm, 'o> {
     ghost on: { at ≢ search.now.target → (tree search.now).place at < search.now.reached },
 }
 
-impl<'n, 's, 'm, 'o> Way<'n, 's, 'm, 'o> {
+impl<'n, 's, 'm, 'o, 'f> Way<'n, 's, 'm, 'o, 'f> {
     // The way that the search found in this flow.
-    pub(crate) fn new(flow: &Flow<'n, '_>, search: &'s Search<'m, 'o>) -> Way<'n, 's, 'm, 'o>
+    pub(crate) fn new(
+        flow: &Flow<'n, '_>,
+        search: &'s Search<'m, 'o, 'f>,
+    ) -> Way<'n, 's, 'm, 'o, 'f>
         requires room { Roomy (graph flow.now.net).nodes search.now }
         requires found { Found (graph flow.now.net) (state flow.now) (tree search.now) }
         ensures net { result.net ≡ flow.now.net }
@@ -40,7 +43,7 @@ impl<'n, 's, 'm, 'o> Way<'n, 's, 'm, 'o> {
     }
 }
 
-impl Iterator for Way<'_, '_, '_, '_> {
+impl Iterator for Way<'_, '_, '_, '_, '_> {
     ghost use Rattle.flow.specs.Stepped.{Stepped};
 
     type Item = usize;

@@ -63,11 +63,13 @@ mod tests {
         });
         let mut marks = [Mark::default(); 4];
         let mut order = [0; 4];
+        let mut frontier = [0; 4];
         let mut slices = Slices {
             flow,
             nodes: &mut nodes,
             marks: &mut marks,
             order: &mut order,
+            frontier: &mut frontier,
         };
         try_solve(Lists { first, arcs }, &mut slices)
     }

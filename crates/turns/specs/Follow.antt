@@ -18,9 +18,11 @@ pub record Integrated (wide high : ℕ) (right below room : List ℤ) : Type 0 w
   pub at : (x y : ℕ) → x < wide → y < high → turns_in wide room x y ≡ integral (turns_in wide right) (turns_in wide below) x y
   pub small : (k : ℕ) → k < wide * high → unsigned_abs (slice_index_or room k (pos 0)) ≤ 1024000
 
--- the steps that one expects of a field, in turns, where there are steps
+-- the steps that one expects of a field, in turns, and 0 where there are none
 pub record Expected (f : Field) (right below : List ℤ) : Type 0 where
   pub right_at : (p : ℕ) → HasRight f p → slice_index_or right p (pos 0) ≡ turns_right_from f p
   pub below_at : (p : ℕ) → HasBelow f p → slice_index_or below p (pos 0) ≡ turns_below_from f p
+  pub right_none : (p : ℕ) → (HasRight f p → ⊥) → slice_index_or right p (pos 0) ≡ pos 0
+  pub below_none : (p : ℕ) → (HasBelow f p → ⊥) → slice_index_or below p (pos 0) ≡ pos 0
   pub right_small : (p : ℕ) → unsigned_abs (slice_index_or right p (pos 0)) ≤ 1
   pub below_small : (p : ℕ) → unsigned_abs (slice_index_or below p (pos 0)) ≤ 1

@@ -33,10 +33,12 @@ impl Steps {
     {
         let right = |place: usize| -> i64
             ensures is { HasRight (field_of field.entry.now) place → result ≡ turns_right_from (field_of field.entry.now) place }
+            ensures none { (HasRight (field_of field.entry.now) place → ⊥) → result ≡ pos 0 }
             ensures small { unsigned_abs result ≤ 1 }
         { field.turns_right(place).unwrap_or(0) };
         let below = |place: usize| -> i64
             ensures is { HasBelow (field_of field.entry.now) place → result ≡ turns_below_from (field_of field.entry.now) place }
+            ensures none { (HasBelow (field_of field.entry.now) place → ⊥) → result ≡ pos 0 }
             ensures small { unsigned_abs result ≤ 1 }
         { field.turns_below(place).unwrap_or(0) };
         Steps {

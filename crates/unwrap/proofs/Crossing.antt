@@ -1,12 +1,16 @@
 -- Steps with flows across them are those of turns that cost least.
-use Rattle.std.proofs.Common.{◌≡◌, ℕ, suc, ◌+◌, ◌*◌, ◌/◌, ◌%◌, ◌<◌, ◌≤◌, List, ◌++◌, length, get_or, ℤ, pos, ◌+ℤ◌, nat_abs, sym, refl, ap, ◌∙◌, ap₂, arith}
+use Rattle.std.proofs.Common.{◌≡◌, ℕ, zero, suc, pred, ◌+◌, ◌*◌, ◌/◌, ◌%◌, ◌<◌, ◌≤◌, List, ◌++◌, length, get_or, ℤ, pos, negsuc, ◌+ℤ◌, nat_abs, sym, refl, ap, ◌∙◌, ap₂, arith}
 use Rattle.std.proofs.lemmas.List.{get_or_append_left, get_or-append-add}
 use Rattle.std.proofs.lemmas.Nat.{mul-add-lt, div-mul-add, mod-mul-add}
-use Rattle.sums.specs.Sum.{sum_ℤ}
-use Rattle.sums.proofs.Sum.{sum_ℤ_ext}
-use Rattle.grid.specs.Field.{Field, turns_in}
-use Rattle.grid.specs.Model.{HasRight, HasBelow, turns_right, turns_below}
+use Rattle.sums.specs.Sum.{sum_to, sum_ℤ}
+use Rattle.sums.proofs.Sum.{sum_ℤ_ext, sum_zero_each}
+use Rattle.grid.specs.Field.{Field, round, turns_in}
+use Rattle.grid.specs.Square.{is_off, squares_off}
+use Rattle.grid.specs.Model.{turns_right, turns_below}
 use Rattle.laws.specs.Cost.{integral, turn_steps}
+use Rattle.laws.specs.Promise.{AllComeBack}
+use Rattle.laws.proofs.Fields.{cost_ext}
+use Rattle.laws.proofs.Integral.{come_back_turns}
 use Rattle.network.specs.Graph.{Graph}
 use Rattle.edges.specs.Edges.{Built}
 use Rattle.squares.specs.Squares.{places, squares_edges, turns_from}
@@ -51,6 +55,19 @@ in_turns : (f : Field) (arc : ℕ → ℕ) (flow : ℕ → ℤ) (x y : ℕ) → 
 unfolding turns_from integral turn_steps
 in_turns f arc flow x y = refl
 
+-- expected steps by column and row
+listed_right : (f : Field) (right below : List ℤ) → Expected f right below → (x y : ℕ) → suc x < f.wide → y < f.high → get_or right (y * f.wide + x) (pos 0) ≡ turns_right f x y
+listed_right f right below e x y k l =
+    let column : (y * f.wide + x) % f.wide ≡ x = mod-mul-add y f.wide x (omega arith) in
+    let line : (y * f.wide + x) / f.wide ≡ y = div-mul-add y f.wide x (omega arith) in
+    e.right_at (y * f.wide + x) (omega (arith, column), omega (arith, line)) ∙ ap₂ (λ (u v : ℕ). turns_right f u v) column line
+
+listed_below : (f : Field) (right below : List ℤ) → Expected f right below → (x y : ℕ) → x < f.wide → suc y < f.high → get_or below (y * f.wide + x) (pos 0) ≡ turns_below f x y
+listed_below f right below e x y k l =
+    let column : (y * f.wide + x) % f.wide ≡ x = mod-mul-add y f.wide x k in
+    let line : (y * f.wide + x) / f.wide ≡ y = div-mul-add y f.wide x k in
+    e.below_at (y * f.wide + x) (omega (arith, line)) ∙ ap₂ (λ (u v : ℕ). turns_below f u v) column line
+
 pub least_from : (f : Field) (arcs downs : List ℕ) (flow right below right' below' : List ℤ) → length arcs ≡ places f → length downs ≡ places f →
     Crossed f (λ e. get_or (arcs ++ downs) e 0) (λ a. get_or flow a (pos 0)) → Expected f right below →
     Addable arcs flow right → Addable downs flow below → Added arcs flow right right' → Added downs flow below below' → LeastSteps f right' below'
@@ -67,19 +84,13 @@ least_from f arcs downs flow right below right' below' q o c e ar ab r b = recor
     right_step x y k l =
         let p = y * f.wide + x in
         let i : p < places f = omega (arith, mul-add-lt y f.wide x f.high l (omega arith)) in
-        let column : p % f.wide ≡ x = mod-mul-add y f.wide x (omega arith) in
-        let line : p / f.wide ≡ y = div-mul-add y f.wide x (omega arith) in
-        let there : HasRight f p = (omega (arith, column), omega (arith, line)) in
-        (in_list f.wide right' x y ∙ r.crossed p (omega arith) ∙ ap₂ (λ (s : ℤ) (d : ℕ). s +ℤ get_or flow d (pos 0)) (e.right_at p there ∙ ap₂ (λ (u v : ℕ). turns_right f u v) column line) (sym (get_or_append_left arcs downs 0 p (omega arith))))
+        (in_list f.wide right' x y ∙ r.crossed p (omega arith) ∙ ap₂ (λ (s : ℤ) (d : ℕ). s +ℤ get_or flow d (pos 0)) (listed_right f right below e x y k l) (sym (get_or_append_left arcs downs 0 p (omega arith))))
 
     below_step : (x y : ℕ) → x < f.wide → suc y < f.high → turns_in f.wide below' x y ≡ turns_below f x y +ℤ get_or flow (get_or arc (places f + (y * f.wide + x)) 0) (pos 0)
     below_step x y k l =
         let p = y * f.wide + x in
         let i : p < places f = omega (arith, mul-add-lt y f.wide x f.high (omega arith) k) in
-        let column : p % f.wide ≡ x = mod-mul-add y f.wide x k in
-        let line : p / f.wide ≡ y = div-mul-add y f.wide x k in
-        let there : HasBelow f p = omega (arith, line) in
-        (in_list f.wide below' x y ∙ b.crossed p (omega arith) ∙ ap₂ (λ (s : ℤ) (d : ℕ). s +ℤ get_or flow d (pos 0)) (e.below_at p there ∙ ap₂ (λ (u v : ℕ). turns_below f u v) column line) (sym (get_or-append-add arcs downs p 0) ∙ ap (λ (n : ℕ). get_or arc (n + p) 0) q))
+        (in_list f.wide below' x y ∙ b.crossed p (omega arith) ∙ ap₂ (λ (s : ℤ) (d : ℕ). s +ℤ get_or flow d (pos 0)) (listed_below f right below e x y k l) (sym (get_or-append-add arcs downs p 0) ∙ ap (λ (n : ℕ). get_or arc (n + p) 0) q))
 
     same : (x y : ℕ) → x < f.wide → y < f.high → integral (turns_in f.wide right') (turns_in f.wide below') x y ≡ turns_from f (λ e. get_or arc e 0) (λ a. get_or flow a (pos 0)) x y
     same x y k l =
@@ -87,3 +98,36 @@ least_from f arcs downs flow right below right' below' q o c e ar ab r b = recor
         (sum_ℤ_ext y (λ j. turns_in f.wide below' 0 j) (λ j. turns_below f 0 j +ℤ get_or flow (get_or arc (places f + (j * f.wide + 0)) 0) (pos 0)) (λ j m. below_step 0 j (omega arith) (omega arith)))
         (sum_ℤ_ext x (λ i. turns_in f.wide right' i y) (λ i. turns_right f i y +ℤ get_or flow (get_or arc (y * f.wide + i) 0) (pos 0)) (λ i m. right_step i y (omega arith) l))
         ∙ sym (in_turns f (λ e. get_or arc e 0) (λ a. get_or flow a (pos 0)) x y))
+
+-- ---- where all comes back
+
+not_off : (r : ℤ) → is_off r ≡ 0 → r ≡ pos 0
+not_off (pos zero) e = refl
+not_off (pos (suc n)) e = absurd (omega (arith, e))
+not_off (negsuc n) e = absurd (omega (arith, e))
+
+none_off : (f : Field) → squares_off f ≡ 0 → AllComeBack f
+unfolding squares_off
+none_off f e x y k l =
+    not_off (round f x y)
+    (sum_zero_each (pred f.wide) (λ i. is_off (round f i y))
+    (sum_zero_each (pred f.high) (λ j. sum_to (pred f.wide) (λ i. is_off (round f i j))) e y (omega arith)) x (omega arith))
+
+in_expected : (f : Field) (x y : ℕ) → integral (turn_steps f).to_right (turn_steps f).to_below x y ≡ sum_ℤ y (λ j. turns_below f 0 j) +ℤ sum_ℤ x (λ i. turns_right f i y)
+unfolding integral turn_steps
+in_expected f x y = refl
+
+-- the expected steps themselves are those of turns that cost nothing
+pub least_expected : (f : Field) (right below : List ℤ) → 1 ≤ f.turn → squares_off f ≡ 0 → Expected f right below → LeastSteps f right below
+least_expected f right below p z e = record {
+  right_small = λ k. omega (arith, e.right_small k);
+  below_small = λ k. omega (arith, e.below_small k);
+  least = λ t h u. omega (arith, cost_ext f t (integral (turn_steps f).to_right (turn_steps f).to_below) (λ x y k l. h x y k l ∙ same x y k l), come_back_turns f p (none_off f z));
+}
+  where
+    same : (x y : ℕ) → x < f.wide → y < f.high → integral (turns_in f.wide right) (turns_in f.wide below) x y ≡ integral (turn_steps f).to_right (turn_steps f).to_below x y
+    same x y k l =
+        (in_integral (turns_in f.wide right) (turns_in f.wide below) x y ∙ ap₂ (λ (u v : ℤ). u +ℤ v)
+        (sum_ℤ_ext y (λ j. turns_in f.wide below 0 j) (λ j. turns_below f 0 j) (λ j m. in_list f.wide below 0 j ∙ listed_below f right below e 0 j (omega arith) (omega arith)))
+        (sum_ℤ_ext x (λ i. turns_in f.wide right i y) (λ i. turns_right f i y) (λ i m. in_list f.wide right i y ∙ listed_right f right below e i y (omega arith) l))
+        ∙ sym (in_expected f x y))

@@ -37,12 +37,13 @@ fn cross_squares(field: &Field, net: Network<'_>, arc_of: &[usize], steps: &mut 
     let mut nodes = [Node::default(); PLACES];
     let mut marks = [Mark::default(); PLACES];
     let mut order = [0; PLACES];
+    let mut frontier = [0; PLACES];
     let mut flow = Flow {
         net,
         flow: &mut across[..net.arcs.len()],
         nodes: &mut nodes[..n],
     };
-    let mut search = Search::new(&mut marks[..n], &mut order[..n]);
+    let mut search = Search::new(&mut marks[..n], &mut order[..n], &mut frontier[..n]);
     settle_squares(field, arc_of, &mut flow, &mut search);
     let Flow { flow, .. } = flow;
     let (right, below) = arc_of.split_at(n);
@@ -77,14 +78,24 @@ fn settle_edges(field: &Field, edges: &[Edge], steps: &mut Steps)
     cross_squares(field, Network { first, arcs }, arc_of, steps);
 }
 
-// The steps of turns that cost least.
+// Lists the edges between the squares of a field, and adds what goes across the steps to those that are expected.
+fn settle_field(field: &Field, steps: &mut Steps)
+    requires { Expected (field_of field.now) steps.old.right steps.old.below }
+    ensures { LeastSteps (field_of field.now) steps.new.right steps.new.below }
+{
+    let mut edges = [Edge::default(); EDGES];
+    let edges = &mut edges[..2 * field.places()];
+    list_edges(field, edges);
+    settle_edges(field, edges, steps);
+}
+
+// The steps of turns that cost least: where all comes back, those that are expected.
 pub fn least_steps(field: &Field) -> Steps
     ensures { LeastSteps (field_of field.now) result.right result.below }
 {
     let mut steps = Steps::expected(field);
-    let mut edges = [Edge::default(); EDGES];
-    let edges = &mut edges[..2 * field.places()];
-    list_edges(field, edges);
-    settle_edges(field, edges, &mut steps);
+    if field.squares_off() > 0 {
+        settle_field(field, &mut steps);
+    }
     steps
 }

@@ -1,4 +1,4 @@
-pub mod Swap
+pub mod Listed
 pub mod Steps
 pub mod Reach
 pub mod Potentials

@@ -5,8 +5,10 @@ use Rattle.std.proofs.lemmas.Bool.{cases_lt}
 use Rattle.network.specs.Graph.{Graph, Laws, reduced_cost}
 use Rattle.network.proofs.Points.{cases_lt_ℤ}
 use Rattle.network.specs.Sound.{State, Sound, left}
-use Rattle.ways.specs.Tree.{Tree, Parent, Relaxed, Aim, far, Searching, Ended}
+use Rattle.ways.specs.Mark.{far}
+use Rattle.ways.specs.Tree.{Tree, Parent, Relaxed, Aim, Searching, Ended}
 use Rattle.ways.specs.Way.{Lowered, OnWay, Step, Found, Cut}
+use Rattle.ways.proofs.Listed.{place_most}
 use Rattle.ways.proofs.Steps.{label_near, label_fits, reduced_small}
 
 -- the potential of a reached node: two ways from the source, of at most n arcs each
@@ -18,9 +20,12 @@ module _ (g : Graph) (w : Laws g) (s : State) (o : Sound g s) (t : Tree) (i : Se
   relaxed : (a : ℕ) → a < g.arcs → t.place (g.tail a) < t.reached → s.flow a <ℤ g.limit a → Relaxed g s t a
   relaxed a h p f = i.relaxed a h p (λ e. absurd (omega (arith, e, (w.arc a h).tail))) f
 
-  module _ (found : t.bound <ℤ far) (s' : State) (same_flow : s'.flow ≡ s.flow) (same_excess : s'.excess ≡ s.excess) (low : Lowered g.nodes t s.potential s'.potential) where
+  module _ (found : t.bound <ℤ t.within) (s' : State) (same_flow : s'.flow ≡ s.flow) (same_excess : s'.excess ≡ s.excess) (low : Lowered g.nodes t s.potential s'.potential) where
     A : Aim g s t
     A = i.aims found
+
+    target_met : t.label t.target <ℤ far
+    target_met = omega (arith, ints, A.label, found, i.near)
 
     -- a reached node is no farther than the target
     up_to : (v : ℕ) → v < g.nodes → t.place v < t.reached → t.label v ≤ℤ t.bound
@@ -45,16 +50,16 @@ module _ (g : Graph) (w : Laws g) (s : State) (o : Sound g s) (t : Tree) (i : Se
         H = (w.arc a h).head
 
         both : t.place (g.tail a) < t.reached → t.place (g.head a) < t.reached → Relaxed g s t a → pos 0 ≤ℤ reduced_cost g s.flow s'.potential a
-        both p q (inl r) = omega (arith, ints, low.inside (g.tail a) T p, low.inside (g.head a) H q, r.1)
+        both p q (inl r) = omega (arith, ints, low.inside (g.tail a) T p, low.inside (g.head a) H q, r)
         both p q (inr r) = omega (arith, ints, low.inside (g.tail a) T p, low.inside (g.head a) H q, r, up_to (g.head a) H q)
 
         leaves : t.place (g.tail a) < t.reached → t.reached ≤ t.place (g.head a) → Relaxed g s t a → pos 0 ≤ℤ reduced_cost g s.flow s'.potential a
-        leaves p q (inl r) = omega (arith, ints, low.inside (g.tail a) T p, low.outside (g.head a) H q, r.1, ended (g.head a) H q r.0)
+        leaves p q (inl r) = omega (arith, ints, low.inside (g.tail a) T p, low.outside (g.head a) H q, r, ended (g.head a) H q)
         leaves p q (inr r) = omega (arith, ints, low.inside (g.tail a) T p, low.outside (g.head a) H q, r)
 
     lacking' : (v : ℕ) → v < g.nodes → s.excess v <ℤ pos 0 → s'.potential v ≡ pos 0
     lacking' v h e = elim (cases_lt (t.place v) t.reached) [
-      | inl p ↦ omega (arith, ints, low.inside v h p, o.lacking v h e, up_to v h p, i.lacks v h (omega (arith, i.in_order)) e)
+      | inl p ↦ omega (arith, ints, low.inside v h p, o.lacking v h e, up_to v h p, i.lacks v h e)
       | inr p ↦ omega (arith, ints, low.outside v h p, o.lacking v h e)
     ]
 
@@ -62,9 +67,9 @@ module _ (g : Graph) (w : Laws g) (s : State) (o : Sound g s) (t : Tree) (i : Se
     bounded' v h = elim (cases_lt (t.place v) t.reached) [
       | inl p ↦ rw (low.inside v h p)
           (near (t.label v) (s.potential v) (s.potential t.source) t.bound (s.potential t.target) (t.place v) (t.place t.target) g.nodes
-          (label_near g w s o g.nodes 0 t i v h (omega (arith, i.in_order)))
-          (rw (sym A.label) (label_near g w s o g.nodes 0 t i t.target A.node A.met))
-          (o.lacking t.target A.node A.lacking) (omega (arith, i.in_order, i.in_bounds)) (omega (arith, A.met, i.in_bounds)))
+          (label_near g w s o g.nodes 0 t i v h (i.listed.finite v h p))
+          (rw (sym A.label) (label_near g w s o g.nodes 0 t i t.target A.node target_met))
+          (o.lacking t.target A.node A.lacking) (place_most g.nodes t i.listed v h) (place_most g.nodes t i.listed t.target A.node))
       | inr p ↦ rw (low.outside v h p) (o.bounded v h)
     ]
 
@@ -94,12 +99,12 @@ module _ (g : Graph) (w : Laws g) (s : State) (o : Sound g s) (t : Tree) (i : Se
           earlier = P.earlier;
         }
       where
-        seen : OnWay t v → t.place v < t.seen
-        seen (inl p) = omega (arith, i.in_order)
-        seen (inr e) = rw e A.met
+        met : OnWay t v → t.label v <ℤ far
+        met (inl p) = i.listed.finite v h p
+        met (inr e) = rw e target_met
 
         P : Parent g s t v
-        P = i.parent v h (seen on) ns
+        P = i.parent v h (met on) ns
 
         T : g.tail (t.via v) < g.nodes
         T = (w.arc (t.via v) P.arc).tail
@@ -125,16 +130,16 @@ module _ (g : Graph) (w : Laws g) (s : State) (o : Sound g s) (t : Tree) (i : Se
 
   -- no lacking node was met: all that were met are reached, and nothing leaves them
   module _ (none : far ≤ℤ t.bound) (more : pos 0 <ℤ s.excess t.source) where
-    all_reached : (v : ℕ) → v < g.nodes → t.place v < t.seen → t.place v < t.reached
+    all_reached : (v : ℕ) → v < g.nodes → t.label v <ℤ far → t.place v < t.reached
     all_reached v h p = elim (cases_lt (t.place v) t.reached) [
       | inl l ↦ l
-      | inr l ↦ absurd (omega (arith, ints, none, ended v h l p, label_fits g w s o g.nodes 0 t i v h p))
+      | inr l ↦ absurd (omega (arith, ints, none, ended v h l, p))
     ]
 
     closed : (a : ℕ) → a < g.arcs → t.place (g.tail a) < t.reached → t.reached ≤ t.place (g.head a) → s.flow a <ℤ g.limit a → ⊥
     closed a h p q f = elim (relaxed a h p f) [
-      | inl r ↦ omega (arith, all_reached (g.head a) (w.arc a h).head r.0)
-      | inr r ↦ omega (arith, ints, none, r, label_fits g w s o g.nodes 0 t i (g.tail a) (w.arc a h).tail (omega (arith, i.in_order)), reduced_small g w s o g.nodes 0 t i a h)
+      | inl r ↦ omega (arith, ints, none, ended (g.head a) (w.arc a h).head q, r, label_fits g w s o g.nodes 0 t i (g.tail a) (w.arc a h).tail (i.listed.finite (g.tail a) (w.arc a h).tail p), reduced_small g w s o g.nodes 0 t i a h)
+      | inr r ↦ omega (arith, ints, none, r, label_fits g w s o g.nodes 0 t i (g.tail a) (w.arc a h).tail (i.listed.finite (g.tail a) (w.arc a h).tail p), reduced_small g w s o g.nodes 0 t i a h)
     ]
 
     pub nothing_leaves : Cut g s t
@@ -142,11 +147,11 @@ module _ (g : Graph) (w : Laws g) (s : State) (o : Sound g s) (t : Tree) (i : Se
         record {
           closed = λ a h p q. full (s.flow a) (g.limit a) (o.flows.within a h) (closed a h p q);
           none_lacking = λ v h p. elim (cases_lt_ℤ (s.excess v) (pos 0)) [
-            | inl e ↦ absurd (omega (arith, ints, none, i.lacks v h (omega (arith, i.in_order)) e, label_fits g w s o g.nodes 0 t i v h (omega (arith, i.in_order))))
+            | inl e ↦ absurd (omega (arith, ints, none, i.lacks v h e, i.listed.finite v h p))
             | inr e ↦ e
           ];
           source = i.is_node;
-          inside = all_reached t.source i.is_node (omega (arith, i.at_source, i.begun));
+          inside = all_reached t.source i.is_node (omega (arith, ints, i.no_label));
           excess = more;
         }
       where

@@ -1,11 +1,13 @@
 -- The steps of a search: an arc passed over, a node met or met by a cheaper way, a node reached; and how far labels can be.
-use Rattle.std.proofs.Common.{◌≡◌, ℕ, zero, suc, ◌+◌, ◌*◌, ◌^◌, ◌<◌, ◌≤◌, ◌⊎◌, ℤ, pos, ◌+ℤ◌, ◌-ℤ◌, nat_abs, ◌≤ℤ◌, ◌<ℤ◌, sym, refl, ap, ◌∙◌, inl, inr, arith, w64, to_z, of_z}
+use Rattle.std.proofs.Common.{◌≡◌, ℕ, zero, suc, ◌+◌, ◌*◌, ◌^◌, ◌<◌, ◌≤◌, ◌⊎◌, ℤ, pos, ◌+ℤ◌, ◌-ℤ◌, nat_abs, ◌≤ℤ◌, ◌<ℤ◌, sym, refl, ap, ◌∙◌, inl, inr, true, false, arith, rules, w64, to_z, of_z}
 use Rattle.std.proofs.lemmas.Int.{ints}
 use Rattle.std.proofs.lemmas.Bool.{cases_eq, cases_lt}
 use Rattle.network.specs.Graph.{Graph, Laws, unit_cost, reduced_cost}
 use Rattle.network.specs.Sound.{State, Sound}
 use Rattle.network.proofs.Points.{cases_lt_ℤ, unit_small}
-use Rattle.ways.specs.Tree.{Tree, Parent, Relaxed, Aim, far, Searching, InHand, Improved, Idle, Nearer, Taken}
+use Rattle.ways.specs.Mark.{far}
+use Rattle.ways.specs.Tree.{Tree, Parent, Relaxed, Aim, Searching, InHand, Improved, Idle, Nearer, Taken}
+use Rattle.ways.proofs.Listed.{place_most}
 
 -- one arc more: label, potential and unit cost along it
 further : (lv lu c pu pv ps : ℤ) (k m : ℕ) → lv ≡ (lu +ℤ ((c +ℤ pu) -ℤ pv)) → nat_abs ((lu +ℤ pu) -ℤ ps) ≤ 1073741824 * k → nat_abs c ≤ 1073741824 → k < m → nat_abs ((lv +ℤ pv) -ℤ ps) ≤ 1073741824 * m
@@ -25,7 +27,11 @@ sum_fits : (l r c : ℤ) → nat_abs l ≤ 2 ^ 60 + 2 ^ 58 → nat_abs c ≤ 2 ^
 sum_fits l r c h i e = omega (arith, ints)
 
 module _ (g : Graph) (w : Laws g) (s : State) (o : Sound g s) (hand upto : ℕ) (t : Tree) (i : Searching g s hand upto t) where
-  label_up_to : (k v : ℕ) → v < g.nodes → t.place v < t.seen → t.place v < k → nat_abs ((t.label v +ℤ s.potential v) -ℤ s.potential t.source) ≤ 1073741824 * t.place v
+  -- the tail of the arc by which a node was met was met as well
+  tail_met : (v : ℕ) → v < g.nodes → t.label v <ℤ far → (P : Parent g s t v) → t.label (g.tail (t.via v)) <ℤ far
+  tail_met v h m P = i.listed.finite (g.tail (t.via v)) (w.arc (t.via v) P.arc).tail P.from
+
+  label_up_to : (k v : ℕ) → v < g.nodes → t.label v <ℤ far → t.place v < k → nat_abs ((t.label v +ℤ s.potential v) -ℤ s.potential t.source) ≤ 1073741824 * t.place v
   label_up_to zero v h m l = absurd (omega arith)
   label_up_to (suc k) v h m l = elim (cases_eq v t.source) [
     | inl e ↦ rw e (nothing_far (t.label t.source) (s.potential t.source) (t.place t.source) i.no_label)
@@ -34,34 +40,31 @@ module _ (g : Graph) (w : Laws g) (s : State) (o : Sound g s) (hand upto : ℕ) 
         let T : g.tail (t.via v) < g.nodes = (w.arc (t.via v) P.arc).tail in
         further (t.label v) (t.label (g.tail (t.via v))) (unit_cost g s.flow (t.via v)) (s.potential (g.tail (t.via v))) (s.potential v) (s.potential t.source) (t.place (g.tail (t.via v))) (t.place v)
         (omega (arith, ints, P.sum, ap s.potential P.ends))
-        (label_up_to k (g.tail (t.via v)) T (omega (arith, P.from, i.in_order)) (omega (arith, P.earlier)))
+        (label_up_to k (g.tail (t.via v)) T (tail_met v h m P) (omega (arith, P.earlier)))
         (unit_small g s.flow (t.via v) w P.arc) P.earlier)
   ]
 
   -- a label is what the way costs, seen from the potentials
-  pub label_near : (v : ℕ) → v < g.nodes → t.place v < t.seen → nat_abs ((t.label v +ℤ s.potential v) -ℤ s.potential t.source) ≤ 1073741824 * t.place v
+  pub label_near : (v : ℕ) → v < g.nodes → t.label v <ℤ far → nat_abs ((t.label v +ℤ s.potential v) -ℤ s.potential t.source) ≤ 1073741824 * t.place v
   label_near v h m = label_up_to (suc (t.place v)) v h m (omega arith)
 
-  pub label_fits : (v : ℕ) → v < g.nodes → t.place v < t.seen → nat_abs (t.label v) ≤ 2 ^ 60 + 2 ^ 58
-  label_fits v h m = short (t.label v) (s.potential v) (s.potential t.source) (t.place v) g.nodes (label_near v h m) (omega (arith, i.in_bounds)) w.few_nodes (o.bounded v h) (o.bounded t.source i.is_node)
+  pub label_fits : (v : ℕ) → v < g.nodes → t.label v <ℤ far → nat_abs (t.label v) ≤ 2 ^ 60 + 2 ^ 58
+  label_fits v h m = short (t.label v) (s.potential v) (s.potential t.source) (t.place v) g.nodes (label_near v h m) (place_most g.nodes t i.listed v h) w.few_nodes (o.bounded v h) (o.bounded t.source i.is_node)
 
   -- a reduced cost, and the label of the node in hand with it
   pub reduced_small : (a : ℕ) → a < g.arcs → nat_abs (reduced_cost g s.flow s.potential a) ≤ 2 ^ 60 + 2 ^ 30
   reduced_small a h = cheap (unit_cost g s.flow a) (s.potential (g.tail a)) (s.potential (g.head a)) g.nodes (unit_small g s.flow a w h) (o.bounded (g.tail a) (w.arc a h).tail) (o.bounded (g.head a) (w.arc a h).head) w.few_nodes
 
   pub level_fits : (u : ℕ) → InHand g.nodes t u → nat_abs t.level ≤ 2 ^ 60 + 2 ^ 58
-  level_fits u h = omega (arith, ints, h.level, label_fits u h.node (omega (arith, h.reached, i.in_order)))
+  level_fits u h = omega (arith, ints, h.level, label_fits u h.node (i.listed.finite u h.node h.reached))
 
   -- an arc that is passed over
   pub passed : (t.place (g.tail upto) < t.reached → s.flow upto <ℤ g.limit upto → Relaxed g s t upto) → Searching g s hand (upto + 1) t
   passed r =
       record {
-        arranged = i.arranged;
-        in_order = i.in_order;
-        in_bounds = i.in_bounds;
+        listed = i.listed;
         is_node = i.is_node;
-        begun = i.begun;
-        at_source = i.at_source;
+        rooted = i.rooted;
         no_label = i.no_label;
         parent = i.parent;
         low = i.low;
@@ -71,6 +74,7 @@ module _ (g : Graph) (w : Laws g) (s : State) (o : Sound g s) (hand upto : ℕ) 
         lacks = i.lacks;
         aims = i.aims;
         bounded = i.bounded;
+        near = i.near;
       }
     where
       at_arc : (a : ℕ) → a < g.arcs → t.place (g.tail a) < t.reached → (g.tail a ≡ hand → a < upto + 1) → s.flow a <ℤ g.limit a → (a ≡ upto) ⊎ (a ≡ upto → ⊥) → Relaxed g s t a
@@ -81,7 +85,7 @@ module _ (g : Graph) (w : Laws g) (s : State) (o : Sound g s) (hand upto : ℕ) 
   module _ (a v : ℕ) (d : ℤ) (t' : Tree) (m : Improved g.nodes t t' v a d)
       (arc : a < g.arcs) (is_hand : g.tail a ≡ hand) (in_hand : t.place hand < t.reached) (leads : g.head a ≡ v) (takes : s.flow a <ℤ g.limit a)
       (sums : d ≡ (t.label (g.tail a) +ℤ reduced_cost g s.flow s.potential a)) (above : t.level ≤ℤ d) (nearer : d <ℤ t.bound)
-      (new : t.place v < t.seen → d ≤ℤ t.label v)
+      (new : d ≤ℤ t.label v)
       (late : t.reached ≤ t.place v)
       (aim : ((s.excess v <ℤ pos 0) × (t'.bound ≡ d) × (t'.target ≡ v)) ⊎ ((pos 0 ≤ℤ s.excess v) × (t'.bound ≡ t.bound) × (t'.target ≡ t.target)))
       (upto_is : upto ≡ a) where
@@ -92,15 +96,8 @@ module _ (g : Graph) (w : Laws g) (s : State) (o : Sound g s) (hand upto : ℕ) 
     apart : (u : ℕ) → t.place u < t.reached → u ≡ v → ⊥
     apart u h e = omega (arith, ap t.place e)
 
-    same_place : (u : ℕ) → u < g.nodes → t.place u < t.reached → t'.place u ≡ t.place u
-    same_place u h p = m.met.kept u h (omega (arith, i.in_order))
-
-    -- places below `reached` are those of the same nodes
-    was_reached : (u : ℕ) → u < g.nodes → t'.place u < t'.reached → t.place u < t.reached
-    was_reached u h p = elim (cases_eq u v) [
-      | inl e ↦ absurd (omega (arith, ap t'.place e, m.met.late, m.reached))
-      | inr n ↦ omega (arith, m.met.kept u h (m.met.others u h (omega (arith, m.reached, i.in_order, m.met.more)) n), m.reached)
-    ]
+    was_reached : (u : ℕ) → t'.place u < t'.reached → t.place u < t.reached
+    was_reached u p = omega (arith, m.place u, m.reached)
 
     bound_falls : t'.bound ≤ℤ t.bound
     bound_falls = elim aim [
@@ -108,33 +105,21 @@ module _ (g : Graph) (w : Laws g) (s : State) (o : Sound g s) (hand upto : ℕ) 
       | inr q ↦ omega (arith, ints, q.1)
     ]
 
-    label_falls : (u : ℕ) → u < g.nodes → t.place u < t.seen → t'.label u ≤ℤ t.label u
-    label_falls u h p = elim (cases_eq u v) [
-      | inl e ↦ omega (arith, ints, ap t'.label e, ap t.label e, m.label_here, new (omega (arith, ap t.place e)))
+    label_falls : (u : ℕ) → t'.label u ≤ℤ t.label u
+    label_falls u = elim (cases_eq u v) [
+      | inl e ↦ omega (arith, ints, ap t'.label e, ap t.label e, m.label_here, new)
       | inr n ↦ omega (arith, ints, m.label_kept u n)
     ]
 
-    still_met : (u : ℕ) → u < g.nodes → t.place u < t.seen → t'.place u < t'.seen
-    still_met u h p = omega (arith, m.met.kept u h p, m.met.more)
-
-    hand_node : hand < g.nodes
-    hand_node = rw (sym is_hand) (w.arc a arc).tail
-
     source_apart : t.source ≡ v → ⊥
-    source_apart e = elim (cases_lt 0 t.reached) [
-      | inl l ↦ omega (arith, i.at_source, ap t.place e, late)
-      | inr l ↦ omega (arith, in_hand)
-    ]
+    source_apart e = omega (arith, i.rooted (omega (arith, in_hand)), ap t.place e, late)
 
-    parent' : (u : ℕ) → u < g.nodes → t'.place u < t'.seen → (u ≡ t.source → ⊥) → Parent g s t' u
+    parent' : (u : ℕ) → u < g.nodes → t'.label u <ℤ far → (u ≡ t.source → ⊥) → Parent g s t' u
     parent' u h p ns = elim (cases_eq u v) [
       | inl e ↦ rw e by_a
       | inr n ↦ as_was n
     ]
       where
-        tail_place : t'.place (g.tail a) ≡ t.place (g.tail a)
-        tail_place = same_place (g.tail a) (w.arc a arc).tail (rw is_hand in_hand)
-
         tail_label : t'.label (g.tail a) ≡ t.label (g.tail a)
         tail_label = m.label_kept (g.tail a) (apart (g.tail a) (rw is_hand in_hand))
 
@@ -144,62 +129,60 @@ module _ (g : Graph) (w : Laws g) (s : State) (o : Sound g s) (hand upto : ℕ) 
               arc = rw m.via_here arc;
               ends = rw m.via_here leads;
               takes = rw m.via_here takes;
-              from = rw m.via_here (omega (arith, tail_place, m.reached, ap t.place is_hand));
-              earlier = rw m.via_here (omega (arith, tail_place, m.met.late, ap t.place is_hand));
+              from = rw m.via_here (omega (arith, m.place (g.tail a), m.reached, ap t.place is_hand));
+              earlier = rw m.via_here (omega (arith, m.place (g.tail a), m.place v, late, ap t.place is_hand));
               sum = rw m.via_here (omega (arith, ints, m.label_here, sums, tail_label));
             }
 
         as_was : (u ≡ v → ⊥) → Parent g s t' u
         as_was n =
-            (let P : Parent g s t u = i.parent u h (m.met.others u h p n) ns in
+            (let P : Parent g s t u = i.parent u h (omega (arith, ints, p, m.label_kept u n)) ns in
             let V : t'.via u ≡ t.via u = m.via_kept u n in
-            let T : g.tail (t.via u) < g.nodes = (w.arc (t.via u) P.arc).tail in
-            let tp : t'.place (g.tail (t.via u)) ≡ t.place (g.tail (t.via u)) = same_place (g.tail (t.via u)) T P.from in
+            let tp : t'.place (g.tail (t.via u)) ≡ t.place (g.tail (t.via u)) = m.place (g.tail (t.via u)) in
             record {
               arc = rw V P.arc;
               ends = rw V P.ends;
               takes = rw V P.takes;
               from = rw V (omega (arith, tp, P.from, m.reached));
-              earlier = rw V (omega (arith, tp, P.earlier, m.met.kept u h (m.met.others u h p n)));
+              earlier = rw V (omega (arith, tp, P.earlier, m.place u));
               sum = rw V (omega (arith, ints, P.sum, m.label_kept u n, m.label_kept (g.tail (t.via u)) (apart (g.tail (t.via u)) P.from)));
             })
 
     relaxed' : (b : ℕ) → b < g.arcs → t'.place (g.tail b) < t'.reached → (g.tail b ≡ hand → b < a + 1) → s.flow b <ℤ g.limit b → Relaxed g s t' b
     relaxed' b h p q f = elim (cases_eq b a) [
-      | inl e ↦ rw e (inl (rw leads m.met.taken, omega (arith, ints, ap t'.label leads, m.label_here, sums, m.label_kept (g.tail a) (apart (g.tail a) (rw is_hand in_hand)))))
+      | inl e ↦ rw e (inl (omega (arith, ints, ap t'.label leads, m.label_here, sums, m.label_kept (g.tail a) (apart (g.tail a) (rw is_hand in_hand)))))
       | inr n ↦ earlier n (i.relaxed b h was (λ x. omega (arith, q x, upto_is)) f)
     ]
       where
         was : t.place (g.tail b) < t.reached
-        was = was_reached (g.tail b) (w.arc b h).tail p
+        was = was_reached (g.tail b) p
 
         same : t'.label (g.tail b) ≡ t.label (g.tail b)
         same = m.label_kept (g.tail b) (apart (g.tail b) was)
 
         earlier : (b ≡ a → ⊥) → Relaxed g s t b → Relaxed g s t' b
-        earlier n (inl r) = inl (still_met (g.head b) (w.arc b h).head r.0, omega (arith, ints, label_falls (g.head b) (w.arc b h).head r.0, r.1, same))
+        earlier n (inl r) = inl (omega (arith, ints, label_falls (g.head b), r, same))
         earlier n (inr r) = inr (omega (arith, ints, r, bound_falls, same))
 
-    lacks' : (u : ℕ) → u < g.nodes → t'.place u < t'.seen → s.excess u <ℤ pos 0 → t'.bound ≤ℤ t'.label u
-    lacks' u h p e = elim (cases_eq u v) [
+    lacks' : (u : ℕ) → u < g.nodes → s.excess u <ℤ pos 0 → t'.bound ≤ℤ t'.label u
+    lacks' u h e = elim (cases_eq u v) [
       | inl q ↦ elim aim [
         | inl x ↦ omega (arith, ints, x.1, ap t'.label q, m.label_here)
         | inr x ↦ absurd (omega (arith, ints, x.0, ap s.excess q))
       ]
-      | inr n ↦ omega (arith, ints, bound_falls, m.label_kept u n, i.lacks u h (m.met.others u h p n) e)
+      | inr n ↦ omega (arith, ints, bound_falls, m.label_kept u n, i.lacks u h e)
     ]
 
-    aims' : t'.bound <ℤ far → Aim g s t'
+    aims' : t'.bound <ℤ t'.within → Aim g s t'
     aims' f = elim aim [
-      | inl x ↦ record { node = rw x.2 node; met = rw x.2 m.met.taken; lacking = rw x.2 x.0; label = rw x.2 (omega (arith, ints, m.label_here, x.1)) }
-      | inr x ↦ old x (i.aims (omega (arith, ints, x.1)))
+      | inl x ↦ record { node = rw x.2 node; lacking = rw x.2 x.0; label = rw x.2 (omega (arith, ints, m.label_here, x.1)) }
+      | inr x ↦ old x (i.aims (omega (arith, ints, x.1, m.within)))
     ]
       where
         old : (pos 0 ≤ℤ s.excess v) × (t'.bound ≡ t.bound) × (t'.target ≡ t.target) → Aim g s t → Aim g s t'
         old x A =
             record {
               node = rw x.2 A.node;
-              met = rw x.2 (still_met t.target A.node A.met);
               lacking = rw x.2 A.lacking;
               label = rw x.2 (omega (arith, ints, A.label, x.1, m.label_kept t.target (λ e. omega (arith, ints, ap s.excess e, A.lacking, x.0))));
             }
@@ -207,18 +190,15 @@ module _ (g : Graph) (w : Laws g) (s : State) (o : Sound g s) (hand upto : ℕ) 
     pub met_by : Searching g s hand (a + 1) t'
     met_by =
         record {
-          arranged = m.arranged;
-          in_order = omega (arith, m.reached, m.met.more, i.in_order);
-          in_bounds = m.met.fits;
+          listed = m.listed;
           is_node = rw m.source i.is_node;
-          begun = omega (arith, m.met.more, i.begun);
-          at_source = rw m.source (m.met.kept t.source i.is_node (omega (arith, i.at_source, i.begun)) ∙ i.at_source);
+          rooted = λ p. rw m.source (omega (arith, m.place t.source, m.reached, i.rooted (omega (arith, p, m.reached))));
           no_label = rw m.source (m.label_kept t.source source_apart ∙ i.no_label);
           parent = λ u h p n. parent' u h p (λ e. n (e ∙ sym m.source));
-          low = λ u h p. omega (arith, ints, m.label_kept u (apart u (was_reached u h p)), i.low u h (was_reached u h p), m.level);
-          high = λ u h p q. elim (cases_eq u v) [
+          low = λ u h p. omega (arith, ints, m.label_kept u (apart u (was_reached u p)), i.low u h (was_reached u p), m.level);
+          high = λ u h p. elim (cases_eq u v) [
             | inl e ↦ omega (arith, ints, ap t'.label e, m.label_here, m.level)
-            | inr n ↦ omega (arith, ints, m.label_kept u n, m.level, i.high u h (omega (arith, m.met.kept u h (m.met.others u h q n), m.reached)) (m.met.others u h q n))
+            | inr n ↦ omega (arith, ints, m.label_kept u n, m.level, i.high u h (omega (arith, m.place u, m.reached)))
           ];
           relaxed = relaxed';
           capped = elim aim [
@@ -227,18 +207,9 @@ module _ (g : Graph) (w : Laws g) (s : State) (o : Sound g s) (hand upto : ℕ) 
           ];
           lacks = lacks';
           aims = aims';
-          bounded = omega (arith, ints, bound_falls, i.bounded);
+          bounded = omega (arith, ints, bound_falls, i.bounded, m.within);
+          near = rw m.within i.near;
         }
-
--- a way is idle, or it is nearer
-idle_or : (t : Tree) (v : ℕ) (d : ℤ) → Idle t v d ⊎ Nearer t v d
-idle_or t v d = elim (cases_lt_ℤ d t.bound) [
-  | inr b ↦ inl (inl b)
-  | inl b ↦ elim (cases_lt (t.place v) t.seen) [
-    | inr p ↦ inr (record { bound = b; label = λ q. absurd (omega arith) })
-    | inl p ↦ elim (cases_lt_ℤ d (t.label v)) [ inl l ↦ inr (record { bound = b; label = λ q. l }) | inr l ↦ inl (inr (p, l)) ]
-  ]
-]
 
 -- what holds after an arc of the node in hand
 pub record Onward (g : Graph) (s : State) (u upto : ℕ) (t t' : Tree) : Type 0 where
@@ -251,50 +222,51 @@ module _ (g : Graph) (w : Laws g) (s : State) (o : Sound g s) (u a : ℕ) (t t' 
   pub closed_arc : g.limit a ≤ℤ s.flow a → Onward g s u (a + 1) t t
   closed_arc c = record { searching = passed g w s o u a t i (λ p f. absurd (omega (arith, ints, f, c))); hand = h; reached = refl; source = refl }
 
-  -- no reached node gets a lower label
-  pub offer_node : s.flow a <ℤ g.limit a → (d : ℤ) → d ≡ (t.level +ℤ reduced_cost g s.flow s.potential a) → t.place (g.head a) < t.reached → t.label (g.head a) ≤ℤ d
-  offer_node takes d e l = omega (arith, ints, e, o.priced a arc takes, i.low (g.head a) (w.arc a arc).head l)
-
   -- the label by the arc, as the code adds it up
   pub along : (r : ℤ) → r ≡ reduced_cost g s.flow s.potential a → to_z w64 (of_z w64 (to_z w64 (of_z w64 t.level) +ℤ to_z w64 (of_z w64 r))) ≡ (t.level +ℤ reduced_cost g s.flow s.potential a)
   along r e = sum_fits t.level r _ (level_fits g w s o u a t i u h) (reduced_small g w s o u a t i a arc) e
 
-  module _ (n : ℕ) (n_is : n ≡ g.nodes) (takes : s.flow a <ℤ g.limit a) (d : ℤ) (d_is : d ≡ (t.level +ℤ reduced_cost g s.flow s.potential a))
-      (idle : Idle t (g.head a) d → t' ≡ t) (taken : Nearer t (g.head a) d → Taken n s.excess t t' (g.head a) a d) where
+  module _ (d : ℤ) (d_is : d ≡ (t.level +ℤ reduced_cost g s.flow s.potential a)) where
     sum_is : d ≡ (t.label (g.tail a) +ℤ reduced_cost g s.flow s.potential a)
     sum_is = omega (arith, ints, d_is, h.level, ap t.label from)
 
-    above : t.level ≤ℤ d
-    above = omega (arith, ints, d_is, o.priced a arc takes)
-
     as_relaxed : Idle t (g.head a) d → Relaxed g s t a
     as_relaxed (inl b) = inr (omega (arith, ints, b, sum_is))
-    as_relaxed (inr q) = inl (q.0, omega (arith, ints, q.1, sum_is))
+    as_relaxed (inr q) = inl (omega (arith, ints, q, sum_is))
 
-    unreached : Nearer t (g.head a) d → t.reached ≤ t.place (g.head a)
-    unreached q = elim (cases_lt (t.place (g.head a)) t.reached) [
-      | inl l ↦ absurd (omega (arith, ints, above, i.low (g.head a) (w.arc a arc).head l, q.label (omega (arith, i.in_order))))
-      | inr l ↦ l
-    ]
+    pub idle_arc : Idle t (g.head a) d → Onward g s u (a + 1) t t
+    idle_arc q = record { searching = passed g w s o u a t i (λ p f. as_relaxed q); hand = h; reached = refl; source = refl }
 
-    by_taken : Nearer t (g.head a) d → Taken g.nodes s.excess t t' (g.head a) a d → Onward g s u (a + 1) t t'
-    by_taken q k =
-        record {
-          searching = met_by g w s o u a t i a (g.head a) d t' k.improved arc from h.reached refl takes sum_is above q.bound (λ p. omega (arith, ints, q.label p)) (unreached q) (aims (cases_lt_ℤ (s.excess (g.head a)) (pos 0))) refl;
-          hand = record { node = h.node; reached = omega (arith, k.improved.met.kept u h.node (omega (arith, h.reached, i.in_order)), k.improved.reached, h.reached); level = omega (arith, ints, k.improved.label_kept u apart_u, h.level, k.improved.level) };
-          reached = k.improved.reached;
-          source = k.improved.source;
-        }
-      where
-        apart_u : u ≡ g.head a → ⊥
-        apart_u e = omega (arith, ap t.place e, unreached q, h.reached)
+    module _ (takes : s.flow a <ℤ g.limit a) (q : Nearer t (g.head a) d) where
+      above : t.level ≤ℤ d
+      above = omega (arith, ints, d_is, o.priced a arc takes)
 
-        aims : (s.excess (g.head a) <ℤ pos 0) ⊎ (pos 0 ≤ℤ s.excess (g.head a)) → ((s.excess (g.head a) <ℤ pos 0) × (t'.bound ≡ d) × (t'.target ≡ g.head a)) ⊎ ((pos 0 ≤ℤ s.excess (g.head a)) × (t'.bound ≡ t.bound) × (t'.target ≡ t.target))
-        aims (inl l) = inl (l, (k.aim l).0, (k.aim l).1)
-        aims (inr l) = inr (l, (k.kept l).0, (k.kept l).1)
+      -- no reached node gets a lower label
+      pub not_reached : t.reached ≤ t.place (g.head a)
+      not_reached = elim (cases_lt (t.place (g.head a)) t.reached) [
+        | inl l ↦ absurd (omega (arith, ints, above, i.low (g.head a) (w.arc a arc).head l, q.label))
+        | inr l ↦ l
+      ]
 
-    pub open_arc : Onward g s u (a + 1) t t'
-    open_arc = elim (idle_or t (g.head a) d) [
-      | inl q ↦ rw (idle q) (record { searching = passed g w s o u a t i (λ p f. as_relaxed q); hand = h; reached = refl; source = refl })
-      | inr q ↦ by_taken q (rw n_is at (taken q))
-    ]
+      pub nearer_arc : Taken g.nodes s.excess t t' (g.head a) a d → Onward g s u (a + 1) t t'
+      nearer_arc k =
+          record {
+            searching = met_by g w s o u a t i a (g.head a) d t' k.improved arc from h.reached refl takes sum_is above q.bound (omega (arith, ints, q.label)) not_reached (aims (cases_lt_ℤ (s.excess (g.head a)) (pos 0))) refl;
+            hand = record { node = h.node; reached = omega (arith, k.improved.place u, k.improved.reached, h.reached); level = omega (arith, ints, k.improved.label_kept u apart_u, h.level, k.improved.level) };
+            reached = k.improved.reached;
+            source = k.improved.source;
+          }
+        where
+          apart_u : u ≡ g.head a → ⊥
+          apart_u e = omega (arith, ap t.place e, not_reached, h.reached)
+
+          aims : (s.excess (g.head a) <ℤ pos 0) ⊎ (pos 0 ≤ℤ s.excess (g.head a)) → ((s.excess (g.head a) <ℤ pos 0) × (t'.bound ≡ d) × (t'.target ≡ g.head a)) ⊎ ((pos 0 ≤ℤ s.excess (g.head a)) × (t'.bound ≡ t.bound) × (t'.target ≡ t.target))
+          aims (inl l) = inl (l, (k.aim l).0, (k.aim l).1)
+          aims (inr l) = inr (l, (k.kept l).0, (k.kept l).1)
+
+-- an arc that is said not to take more does not
+pub not_open : (x l : ℤ) → (x <ℤ l → false ≡ true) → l ≤ℤ x
+not_open x l h = elim (cases_lt_ℤ x l) [
+  | inl k ↦ absurd (let e = h k in search rules)
+  | inr k ↦ k
+]

@@ -1,20 +1,22 @@
 -- A search for the cheapest ways from a source: nodes reached, nodes on the frontier, and the arcs by which they were met.
-use Rattle.std.specs.Prelude.{◌≡◌, ℕ, ◌+◌, ◌^◌, ◌<◌, ◌≤◌, ◌⊎◌, length, ℤ, pos, ◌+ℤ◌, ◌≤ℤ◌, ◌<ℤ◌, ◌≢◌}
+use Rattle.std.specs.Prelude.{◌≡◌, ℕ, ◌+◌, ◌<◌, ◌≤◌, ◌⊎◌, length, ℤ, pos, ◌+ℤ◌, ◌≤ℤ◌, ◌<ℤ◌, ◌≢◌}
 use Rattle.network.specs.Graph.{Graph, reduced_cost}
 use Rattle.network.specs.Sound.{State}
-use Rattle.ways.specs.Mark.{label_of, via_of, place_of, node_at, Arranged}
+use Rattle.ways.specs.Mark.{label_of, via_of, place_of, node_at, far, Listed}
 use Rattle.ways.specs.declared.search.Search.{Search}
 
--- all nodes stand in `order`, each at its `place`: first those reached, then the frontier up to `seen`, then the others
+-- `order` has the reached nodes, each at its `place`, and `frontier` those that were met and wait to be reached
 pub record Tree : Type 0 where
   pub label : ℕ → ℤ
   pub via : ℕ → ℕ
   pub place : ℕ → ℕ
   pub order : ℕ → ℕ
+  pub frontier : ℕ → ℕ
   pub source : ℕ
   pub reached : ℕ
-  pub seen : ℕ
+  pub waiting : ℕ
   pub level : ℤ
+  pub within : ℤ
   pub bound : ℤ
   pub target : ℕ
 
@@ -25,10 +27,12 @@ tree s =
       via = via_of s.marks.now;
       place = place_of s.marks.now;
       order = node_at s.order.now;
+      frontier = node_at s.frontier.now;
       source = s.source;
       reached = s.reached;
-      seen = s.seen;
+      waiting = s.waiting;
       level = s.level;
+      within = s.within;
       bound = s.bound;
       target = s.target;
     }
@@ -41,26 +45,19 @@ Roomy n s = length s.order.now ≡ n
 pub record SameSlices (s s' : Search) : Type 0 where
   pub marks : s'.marks.ghost_name ≡ s.marks.ghost_name
   pub order : s'.order.ghost_name ≡ s.order.ghost_name
+  pub frontier : s'.frontier.ghost_name ≡ s.frontier.ghost_name
   pub len : length s'.order.now ≡ length s.order.now
 
--- the same but for `seen` and the places
-pub record Kept (s s' : Search) : Type 0 where
-  pub label : (v : ℕ) → label_of s'.marks.now v ≡ label_of s.marks.now v
-  pub via : (v : ℕ) → via_of s'.marks.now v ≡ via_of s.marks.now v
-  pub source : s'.source ≡ s.source
-  pub reached : s'.reached ≡ s.reached
-  pub level : s'.level ≡ s.level
-  pub bound : s'.bound ≡ s.bound
-  pub target : s'.target ≡ s.target
+-- the lists of a search say what its labels and places say
+abbrev pub ListedTree : ℕ → Tree → Type 0
+ListedTree n t = Listed n t.label t.place t.order t.frontier t.reached t.waiting
 
--- node v is on the frontier, and no other node has come there
-pub record Met (n : ℕ) (place : ℕ → ℕ) (seen reached : ℕ) (place' : ℕ → ℕ) (seen' v : ℕ) : Type 0 where
-  pub more : seen ≤ seen'
-  pub fits : seen' ≤ n
-  pub kept : (w : ℕ) → w < n → place w < seen → place' w ≡ place w
-  pub others : (w : ℕ) → w < n → place' w < seen' → (w ≢ v) → place w < seen
-  pub taken : place' v < seen'
-  pub late : reached ≤ place' v
+-- nothing was met
+pub record Forgot (n : ℕ) (t : Tree) : Type 0 where
+  pub label : (v : ℕ) → v < n → far ≤ℤ t.label v
+  pub place : (v : ℕ) → v < n → t.place v ≡ n
+  pub reached : t.reached ≡ 0
+  pub waiting : t.waiting ≡ 0
 
 -- node v was met by an open arc from a node reached before it
 pub record Parent (g : Graph) (s : State) (t : Tree) (v : ℕ) : Type 0 where
@@ -71,40 +68,33 @@ pub record Parent (g : Graph) (s : State) (t : Tree) (v : ℕ) : Type 0 where
   pub earlier : t.place (g.tail (t.via v)) < t.place v
   pub sum : t.label v ≡ (t.label (g.tail (t.via v)) +ℤ reduced_cost g s.flow s.potential (t.via v))
 
--- arc a leads no nearer than its head's label, or no nearer than the nearest lacking node seen
+-- arc a leads no nearer than its head's label, or no nearer than the nearest lacking node met
 abbrev pub Relaxed : Graph → State → Tree → ℕ → Type 0
 Relaxed g s t a =
-    ((t.place (g.head a) < t.seen) × (t.label (g.head a) ≤ℤ (t.label (g.tail a) +ℤ reduced_cost g s.flow s.potential a)))
+    (t.label (g.head a) ≤ℤ (t.label (g.tail a) +ℤ reduced_cost g s.flow s.potential a))
     ⊎ (t.bound ≤ℤ (t.label (g.tail a) +ℤ reduced_cost g s.flow s.potential a))
 
--- the nearest lacking node seen so far
+-- the nearest lacking node met so far
 pub record Aim (g : Graph) (s : State) (t : Tree) : Type 0 where
   pub node : t.target < g.nodes
-  pub met : t.place t.target < t.seen
   pub lacking : s.excess t.target <ℤ pos 0
   pub label : t.label t.target ≡ t.bound
 
--- a bound that no label comes to: no lacking node seen
-abbrev pub far : ℤ
-far = pos (2 ^ 62)
-
 -- of the arcs of the node in hand those below `upto` are relaxed, and all arcs of the others reached
 pub record Searching (g : Graph) (s : State) (hand upto : ℕ) (t : Tree) : Type 0 where
-  pub arranged : Arranged g.nodes t.place t.order
-  pub in_order : t.reached ≤ t.seen
-  pub in_bounds : t.seen ≤ g.nodes
+  pub listed : ListedTree g.nodes t
   pub is_node : t.source < g.nodes
-  pub begun : 0 < t.seen
-  pub at_source : t.place t.source ≡ 0
+  pub rooted : 0 < t.reached → t.place t.source < t.reached
   pub no_label : t.label t.source ≡ pos 0
-  pub parent : (v : ℕ) → v < g.nodes → t.place v < t.seen → (v ≢ t.source) → Parent g s t v
+  pub parent : (v : ℕ) → v < g.nodes → t.label v <ℤ far → (v ≢ t.source) → Parent g s t v
   pub low : (v : ℕ) → v < g.nodes → t.place v < t.reached → t.label v ≤ℤ t.level
-  pub high : (v : ℕ) → v < g.nodes → t.reached ≤ t.place v → t.place v < t.seen → t.level ≤ℤ t.label v
+  pub high : (v : ℕ) → v < g.nodes → t.reached ≤ t.place v → t.level ≤ℤ t.label v
   pub relaxed : (a : ℕ) → a < g.arcs → t.place (g.tail a) < t.reached → (g.tail a ≡ hand → a < upto) → s.flow a <ℤ g.limit a → Relaxed g s t a
   pub capped : t.level ≤ℤ t.bound
-  pub lacks : (v : ℕ) → v < g.nodes → t.place v < t.seen → s.excess v <ℤ pos 0 → t.bound ≤ℤ t.label v
-  pub aims : t.bound <ℤ far → Aim g s t
-  pub bounded : t.bound ≤ℤ far
+  pub lacks : (v : ℕ) → v < g.nodes → s.excess v <ℤ pos 0 → t.bound ≤ℤ t.label v
+  pub aims : t.bound <ℤ t.within → Aim g s t
+  pub bounded : t.bound ≤ℤ t.within
+  pub near : t.within ≤ℤ far
 
 -- node u is the one reached last
 pub record InHand (n : ℕ) (t : Tree) (u : ℕ) : Type 0 where
@@ -112,26 +102,27 @@ pub record InHand (n : ℕ) (t : Tree) (u : ℕ) : Type 0 where
   pub reached : t.place u < t.reached
   pub level : t.label u ≡ t.level
 
--- node v has the label d by arc a, and is on the frontier
+-- node v has the label d by arc a, and waits on the frontier
 pub record Improved (n : ℕ) (t t' : Tree) (v a : ℕ) (d : ℤ) : Type 0 where
-  pub arranged : Arranged n t'.place t'.order
+  pub listed : ListedTree n t'
+  pub place : (w : ℕ) → t'.place w ≡ t.place w
   pub source : t'.source ≡ t.source
   pub reached : t'.reached ≡ t.reached
   pub level : t'.level ≡ t.level
-  pub met : Met n t.place t.seen t.reached t'.place t'.seen v
+  pub within : t'.within ≡ t.within
   pub label_here : t'.label v ≡ d
   pub label_kept : (w : ℕ) → (w ≢ v) → t'.label w ≡ t.label w
   pub via_here : t'.via v ≡ a
   pub via_kept : (w : ℕ) → (w ≢ v) → t'.via w ≡ t.via w
 
--- a way to node v by arc a, which d is the label of, is no better than what is known
+-- a way to node v, which d is the label of, is no better than what is known
 abbrev pub Idle : Tree → ℕ → ℤ → Type 0
-Idle t v d = (t.bound ≤ℤ d) ⊎ ((t.place v < t.seen) × (t.label v ≤ℤ d))
+Idle t v d = (t.bound ≤ℤ d) ⊎ (t.label v ≤ℤ d)
 
--- it is nearer than the nearest lacking node seen, and than the label of v if v has one
+-- it is nearer than the nearest lacking node met, and than the label of v
 pub record Nearer (t : Tree) (v : ℕ) (d : ℤ) : Type 0 where
   pub bound : d <ℤ t.bound
-  pub label : t.place v < t.seen → d <ℤ t.label v
+  pub label : d <ℤ t.label v
 
 -- then it is taken, and v, if it lacks something, is the nearest lacking node
 pub record Taken (n : ℕ) (excess : ℕ → ℤ) (t t' : Tree) (v a : ℕ) (d : ℤ) : Type 0 where
@@ -139,38 +130,46 @@ pub record Taken (n : ℕ) (excess : ℕ → ℤ) (t t' : Tree) (v a : ℕ) (d :
   pub aim : excess v <ℤ pos 0 → (t'.bound ≡ d) × (t'.target ≡ v)
   pub kept : pos 0 ≤ℤ excess v → (t'.bound ≡ t.bound) × (t'.target ≡ t.target)
 
--- no frontier node is nearer than the nearest lacking node seen
+-- no node that is not reached is nearer than the nearest lacking node met
 abbrev pub Ended : ℕ → Tree → Type 0
-Ended n t = (v : ℕ) → v < n → t.reached ≤ t.place v → t.place v < t.seen → t.bound ≤ℤ t.label v
+Ended n t = (v : ℕ) → v < n → t.reached ≤ t.place v → t.bound ≤ℤ t.label v
+
+-- node u, which waited on the frontier, is reached
+pub record Reached (n : ℕ) (t t' : Tree) (u : ℕ) : Type 0 where
+  pub listed : ListedTree n t'
+  pub here : t'.place u ≡ t.reached
+  pub kept : (v : ℕ) → (v ≢ u) → t'.place v ≡ t.place v
+  pub reached : t'.reached ≡ t.reached + 1
+  pub label : (v : ℕ) → t'.label v ≡ t.label v
+  pub via : (v : ℕ) → t'.via v ≡ t.via v
+  pub source : t'.source ≡ t.source
+  pub within : t'.within ≡ t.within
+  pub bound : t'.bound ≡ t.bound
+  pub target : t'.target ≡ t.target
 
 -- node u, one of the nearest on the frontier, is reached
 pub record Advanced (n : ℕ) (t t' : Tree) (u : ℕ) : Type 0 where
   pub node : u < n
   pub was : t.reached ≤ t.place u
-  pub met : t.place u < t.seen
   pub nearer : t.label u <ℤ t.bound
-  pub least : (v : ℕ) → v < n → t.reached ≤ t.place v → t.place v < t.seen → t.label u ≤ℤ t.label v
-  pub arranged : Arranged n t'.place t'.order
+  pub least : (v : ℕ) → v < n → t.reached ≤ t.place v → t.label u ≤ℤ t.label v
+  pub listed : ListedTree n t'
   pub here : t'.place u ≡ t.reached
-  pub kept : (v : ℕ) → v < n → t.place v < t.reached → t'.place v ≡ t.place v
-  pub later : (v : ℕ) → v < n → (v ≢ u) → t.reached ≤ t.place v → t.reached < t'.place v
-  pub seen_kept : (v : ℕ) → v < n → t.place v < t.seen → t'.place v < t'.seen
-  pub seen_was : (v : ℕ) → v < n → t'.place v < t'.seen → t.place v < t.seen
+  pub kept : (v : ℕ) → (v ≢ u) → t'.place v ≡ t.place v
   pub reached : t'.reached ≡ t.reached + 1
-  pub seen : t'.seen ≡ t.seen
   pub level : t'.level ≡ t.label u
   pub label : (v : ℕ) → t'.label v ≡ t.label v
   pub via : (v : ℕ) → t'.via v ≡ t.via v
   pub source : t'.source ≡ t.source
+  pub within : t'.within ≡ t.within
   pub bound : t'.bound ≡ t.bound
   pub target : t'.target ≡ t.target
 
 -- nothing is known but the source
 pub record Begun (n : ℕ) (t : Tree) : Type 0 where
-  pub arranged : Arranged n t.place t.order
-  pub at_source : t.place t.source ≡ 0
+  pub listed : ListedTree n t
   pub no_label : t.label t.source ≡ pos 0
+  pub only : (v : ℕ) → v < n → t.label v <ℤ far → v ≡ t.source
   pub reached : t.reached ≡ 0
-  pub seen : t.seen ≡ 1
   pub level : t.level ≡ pos 0
-  pub bound : t.bound ≡ far
+  pub bound : t.bound ≡ t.within

@@ -1,7 +1,8 @@
-// What a search knows of a node, and the nodes by their places.
+// What a search knows of a node.
 ghost use Rattle.std.specs.Prelude.{◌≡◌, ℕ, ◌<◌, length};
 
-/// What a search knows of a node: a label, the arc that it came by, and the place at which the node stands.
+/// What a search knows of a node: a label, `FAR` where it was not met, the arc that it came by, and its place among those reached,
+/// or the number of all nodes where it is not.
 #[derive(Clone, Copy, PartialEq, Eq, Debug, Default)]
 pub struct Mark {
     pub label: i64,
@@ -9,54 +10,39 @@ pub struct Mark {
     pub place: usize,
 }
 
-ghost use Rattle.ways.specs.Mark.{label_of, via_of, place_of, node_at, Arranged, Exchanged, Labelled};
+/// Farther than any node.
+pub const FAR: i64 = 1 << 62;
 
-// Marks by node and nodes by place are two lists, since both ways are asked. Here and below that they are as long is a clause; the search
-// that has both keeps it by its type. Functions and no methods of the search: there each single write would have to keep that type.
+ghost use Rattle.ways.specs.Mark.{place_of, Unmet, Blank, Unmarked, Labelled, Placed};
 
-// Puts each node at its own number.
-fn number(order: &mut [usize])
-    ensures len { length order.new ≡ length order.old }
-    ensures at { (k : ℕ) → k < length order.old → node_at order.new k ≡ k }
-{
-    for (k, node) in order.iter_mut().enumerate() {
-        *node = k;
+// Functions over marks and no methods of the search: there each single write would have to keep the search's type.
+
+impl Mark {
+    // Of a node that was not met, one of `n`.
+    fn unmet(n: usize) -> Mark
+        ensures { Unmet n result }
+    {
+        Mark {
+            label: FAR,
+            via: 0,
+            place: n,
+        }
     }
 }
 
-// Lets each node know its own number as its place.
-fn place(marks: &mut [Mark])
-    ensures len { length marks.new ≡ length marks.old }
-    ensures at { (v : ℕ) → v < length marks.old → place_of marks.new v ≡ v }
+// Marks all nodes as not met.
+pub(crate) fn blank(marks: &mut [Mark])
+    ensures { Blank (length marks.new) marks.new }
 {
-    for (v, mark) in marks.iter_mut().enumerate() {
-        mark.place = v;
-    }
+    marks.fill(Mark::unmet(marks.len()));
 }
 
-// Lets each node stand at its own number.
-pub(crate) fn arrange(marks: &mut [Mark], order: &mut [usize])
-    requires { length marks.old ≡ length order.old }
-    ensures { Arranged (length order.new) (place_of marks.new) (node_at order.new) }
+// Marks node `v` as not met.
+pub(crate) fn unmeet(marks: &mut [Mark], v: usize)
+    requires { v < length marks.old }
+    ensures { Unmarked (length marks.old) marks.old marks.new v }
 {
-    number(order);
-    place(marks);
-}
-
-// Lets the nodes at places `i` and `j` change places.
-pub(crate) fn exchange(marks: &mut [Mark], order: &mut [usize], i: usize, j: usize)
-    requires len { length marks.old ≡ length order.old }
-    requires arranged { Arranged (length order.old) (place_of marks.old) (node_at order.old) }
-    requires i { i < length order.old }
-    requires j { j < length order.old }
-    ensures arranged { Arranged (length order.new) (place_of marks.new) (node_at order.new) }
-    ensures exchanged { Exchanged (length order.old) (place_of marks.old) (node_at order.old) (place_of marks.new) i j }
-    ensures label { (v : ℕ) → label_of marks.new v ≡ label_of marks.old v }
-    ensures via { (v : ℕ) → via_of marks.new v ≡ via_of marks.old v }
-{
-    order.swap(i, j);
-    marks[order[i]].place = i;
-    marks[order[j]].place = j;
+    marks[v] = Mark::unmet(marks.len());
 }
 
 // Gives node `v` the label `d`, by arc `a`. The three are handed on as they are: each is of another list, and all are written at once.
@@ -67,4 +53,12 @@ pub(crate) fn relabel(marks: &mut [Mark], v: usize, a: usize, d: i64)
 {
     marks[v].label = d;
     marks[v].via = a;
+}
+
+// Gives node `v` the place `k`.
+pub(crate) fn put(marks: &mut [Mark], v: usize, k: usize)
+    requires { v < length marks.old }
+    ensures { Placed marks.old marks.new v k }
+{
+    marks[v].place = k;
 }

@@ -1,26 +1,45 @@
-use Rattle.std.proofs.Common.{rules}
+use Rattle.std.proofs.Common.{length, ap, inl, inr, arith}
+use Rattle.std.proofs.lemmas.Int.{ints}
+use Rattle.network.proofs.Points.{cases_lt_ℤ}
+use Rattle.ways.specs.Mark.{far}
+use Rattle.ways.specs.Tree.{tree}
+use Rattle.ways.proofs.Listed.{met_is}
 use Rattle.ways.proofs.search.Search.advance.Goals as goal
+
+pub returns-then-self-d-clause-ended : goal.returns-then-self-d-clause-ended
+returns-then-self-d-clause-ended c =
+    let s = c.args.self.now in let t = tree s in
+    λ v h p. elim (cases_lt_ℤ (t.label v) far) [
+      | inl f ↦ elim (met_is (length s.order.now) t.label t.place t.order t.frontier t.reached t.waiting s.listed v h f) [
+        | inl q ↦ absurd (omega (arith, p, q))
+        | inr q ↦ omega (arith, ints, c.nearest-k.ensures.least q.0 q.1, ap t.label q.2, c.if-self-d.true)
+      ]
+      | inr f ↦ omega (arith, ints, f, c.requires.bounded)
+    ]
 
 pub returns-clause-advanced : goal.returns-clause-advanced
 returns-clause-advanced c =
+    let s = c.args.self.now in let t = tree s in let r = c.reach-u.ensures.reached in let k = c.nearest-k.result in let u_is = c.reach-u.ensures.node in
     record {
-      node = search rules;
-      was = search rules;
-      met = search rules;
-      nearer = search rules;
-      least = λ v h p q. search rules;
-      arranged = search rules;
-      here = search rules;
-      kept = λ v h p. search rules;
-      later = λ v h n p. search rules;
-      seen_kept = λ v h p. search rules;
-      seen_was = λ v h p. search rules;
-      reached = search rules;
-      seen = search rules;
-      level = search rules;
-      label = λ v. search rules;
-      via = λ v. search rules;
-      source = search rules;
-      bound = search rules;
-      target = search rules;
+      node = omega (arith, u_is, s.listed.node k c.nearest-k.ensures.waits);
+      was = rw u_is (s.listed.late k c.nearest-k.ensures.waits);
+      nearer = rw u_is (omega (arith, ints, c.if-self-d.false));
+      least = λ v h p. rw u_is (elim (cases_lt_ℤ (t.label v) far) [
+        | inl f ↦ elim (met_is (length s.order.now) t.label t.place t.order t.frontier t.reached t.waiting s.listed v h f) [
+          | inl q ↦ absurd (omega (arith, p, q))
+          | inr q ↦ omega (arith, ints, c.nearest-k.ensures.least q.0 q.1, ap t.label q.2)
+        ]
+        | inr f ↦ omega (arith, ints, f, c.if-self-d.false, c.requires.bounded)
+      ]);
+      listed = r.listed;
+      here = r.here;
+      kept = r.kept;
+      reached = r.reached;
+      level = rw u_is (omega (arith, ints));
+      label = r.label;
+      via = r.via;
+      source = r.source;
+      within = r.within;
+      bound = r.bound;
+      target = r.target;
     }

@@ -9,6 +9,7 @@ invariant-loop-u l =
     SameSlices l.fn.self l.self
     × Searching (graph l.flow.net) (state l.flow) (graph l.flow.net).nodes 0 (tree l.self)
     × (l.self.source ≡ l.source)
+    × (l.self.within ≡ l.within)
 
 abbrev pub decreases-loop-u : goal.decreases-loop-u
 decreases-loop-u l = (graph l.flow.net).nodes - l.self.reached

@@ -1,10 +1,19 @@
-use Rattle.std.proofs.Common.{◌+◌, refl, ap, arith, rules}
+use Rattle.std.proofs.Common.{◌≡◌, ◌+◌, ◌⊎◌, ℤ, refl, inl, inr, arith, w64, to_z, of_z}
+use Rattle.std.specs.Int.{int_min}
 use Rattle.std.proofs.lemmas.Int.{ints}
 use Rattle.network.specs.Network.{graph}
 use Rattle.network.specs.Sound.{state}
+use Rattle.network.proofs.Points.{cases_lt_ℤ, lt_yes, lt_no}
 use Rattle.ways.specs.Tree.{tree}
-use Rattle.ways.proofs.Steps.{level_fits, reduced_small, along, Onward, closed_arc, open_arc, offer_node}
+use Rattle.ways.proofs.Steps.{level_fits, reduced_small, along, Onward, closed_arc, idle_arc, not_reached, nearer_arc, not_open}
 use Rattle.ways.proofs.search.Search.relax.Goals as goal
+
+-- the lesser of two is one of them
+one_of : (b l m : ℤ) → m ≡ int_min b l → (m ≡ b) ⊎ (m ≡ l)
+one_of b l m e = elim (cases_lt_ℤ l b) [
+  | inl h ↦ inr (rw (lt_yes l b h) at e)
+  | inr h ↦ inl (rw (lt_no l b h) at e)
+]
 
 pub overflow_add-d : goal.overflow_add-d
 overflow_add-d c =
@@ -17,20 +26,37 @@ overflow_add-d c =
       reduced_small (graph net) net.formed.laws (state c.args.flow.now) c.requires.sound _ c.args.a (tree c.args.self.now) c.requires.searching c.args.a c.requires.arc,
     )
 
-pub offer-requires-clause-level : goal.offer-requires-clause-level
-offer-requires-clause-level c =
-    let net = c.args.flow.now.net in
-    offer_node (graph net) net.formed.laws (state c.args.flow.now) c.requires.sound _ c.args.a (tree c.args.self.now) (tree c.args.self.now) c.requires.searching c.requires.hand c.requires.arc refl
-    (c.if-open.ensures.0 refl) _
-    (along (graph net) net.formed.laws (state c.args.flow.now) c.requires.sound _ c.args.a (tree c.args.self.now) (tree c.args.self.now) c.requires.searching c.requires.hand c.requires.arc refl c.reduced_cost.result c.reduced_cost.ensures)
+pub offset_bounds-self-v : goal.offset_bounds-self-v
+offset_bounds-self-v c =
+    let net = c.args.flow.now.net in omega (arith, (net.formed.laws.arc c.args.a c.requires.arc).head, net.formed.laws.few_nodes)
 
-onward : (c : goal.After-offer) → Onward (graph c.args.flow.now.net) (state c.args.flow.now) ((graph c.args.flow.now.net).tail c.args.a) (c.args.a + 1) (tree c.args.self.now) (tree c.offer.new.self)
+pub bounds-self-v : goal.bounds-self-v
+bounds-self-v c =
+    let net = c.args.flow.now.net in omega (arith, (net.formed.laws.arc c.args.a c.requires.arc).head, c.requires.room, c.args.self.now.same_len)
+
+pub returns-then-d-min-clause-searching : goal.returns-then-d-min-clause-searching
+returns-then-d-min-clause-searching c =
+    let net = c.args.flow.now.net in let t = tree c.args.self.now in
+    let is = along (graph net) net.formed.laws (state c.args.flow.now) c.requires.sound _ c.args.a (tree c.args.self.now) (tree c.args.self.now) c.requires.searching c.requires.hand c.requires.arc refl c.reduced_cost.result c.reduced_cost.ensures in
+    (idle_arc (graph net) net.formed.laws (state c.args.flow.now) c.requires.sound _ c.args.a (tree c.args.self.now) (tree c.args.self.now) c.requires.searching c.requires.hand c.requires.arc refl _ is
+    (elim (one_of (to_z w64 (of_z w64 t.bound)) (to_z w64 (of_z w64 (t.label ((graph net).head c.args.a)))) c.min.result c.min.ensures.value) [
+      | inl e ↦ inl (omega (arith, ints, c.if-d-min.true, e, is))
+      | inr e ↦ inr (omega (arith, ints, c.if-d-min.true, e, is))
+    ])).searching
+
+pub take-requires-clause-unreached : goal.take-requires-clause-unreached
+take-requires-clause-unreached c =
+    let net = c.args.flow.now.net in
+    let is = along (graph net) net.formed.laws (state c.args.flow.now) c.requires.sound _ c.args.a (tree c.args.self.now) (tree c.args.self.now) c.requires.searching c.requires.hand c.requires.arc refl c.reduced_cost.result c.reduced_cost.ensures in
+    not_reached (graph net) net.formed.laws (state c.args.flow.now) c.requires.sound _ c.args.a (tree c.args.self.now) (tree c.args.self.now) c.requires.searching c.requires.hand c.requires.arc refl _ is
+    (c.if-open.ensures.0 refl) (record { bound = omega (arith, ints, c.if-d-min.false, is); label = omega (arith, ints, c.if-d-min.false, is) })
+
+onward : (c : goal.After-take) → Onward (graph c.args.flow.now.net) (state c.args.flow.now) ((graph c.args.flow.now.net).tail c.args.a) (c.args.a + 1) (tree c.args.self.now) (tree c.take.new.self)
 onward c =
     let net = c.args.flow.now.net in
-    open_arc (graph net) net.formed.laws (state c.args.flow.now) c.requires.sound _ c.args.a (tree c.args.self.now) (tree c.offer.new.self) c.requires.searching c.requires.hand c.requires.arc refl
-    _ c.requires.room (c.if-open.ensures.0 refl) _
-    (along (graph net) net.formed.laws (state c.args.flow.now) c.requires.sound _ c.args.a (tree c.args.self.now) (tree c.args.self.now) c.requires.searching c.requires.hand c.requires.arc refl c.reduced_cost.result c.reduced_cost.ensures)
-    (λ q. ap tree (c.offer.ensures.idle q)) c.offer.ensures.taken
+    let is = along (graph net) net.formed.laws (state c.args.flow.now) c.requires.sound _ c.args.a (tree c.args.self.now) (tree c.args.self.now) c.requires.searching c.requires.hand c.requires.arc refl c.reduced_cost.result c.reduced_cost.ensures in
+    nearer_arc (graph net) net.formed.laws (state c.args.flow.now) c.requires.sound _ c.args.a (tree c.args.self.now) (tree c.take.new.self) c.requires.searching c.requires.hand c.requires.arc refl _ is
+    (c.if-open.ensures.0 refl) (record { bound = omega (arith, ints, c.if-d-min.false, is); label = omega (arith, ints, c.if-d-min.false, is) }) (rw c.requires.room at c.take.ensures.taken)
 
 pub returns-then-open-clause-searching : goal.returns-then-open-clause-searching
 returns-then-open-clause-searching c = (onward c).searching
@@ -38,14 +64,8 @@ returns-then-open-clause-searching c = (onward c).searching
 pub returns-then-open-clause-hand : goal.returns-then-open-clause-hand
 returns-then-open-clause-hand c = (onward c).hand
 
-pub returns-then-open-clause-reached : goal.returns-then-open-clause-reached
-returns-then-open-clause-reached c = (onward c).reached
-
-pub returns-then-open-clause-source : goal.returns-then-open-clause-source
-returns-then-open-clause-source c = (onward c).source
-
 pub returns-else-open-clause-searching : goal.returns-else-open-clause-searching
 returns-else-open-clause-searching c =
     let net = c.args.flow.now.net in
     (closed_arc (graph net) net.formed.laws (state c.args.flow.now) c.requires.sound _ c.args.a (tree c.args.self.now) (tree c.args.self.now) c.requires.searching c.requires.hand c.requires.arc refl
-    (search rules)).searching
+    (not_open _ _ c.if-open.ensures.1)).searching

@@ -1,16 +1,10 @@
-use Rattle.std.proofs.Common.{arith, rules}
-use Rattle.std.proofs.lemmas.Int.{ints}
+use Rattle.std.proofs.Common.{rules}
 use Rattle.network.specs.Network.{graph}
 use Rattle.network.specs.Sound.{state}
 use Rattle.network.proofs.Points.{within_arcs, tail_is}
 use Rattle.ways.specs.Tree.{tree}
-use Rattle.ways.proofs.Reach.{scanned, stopped}
+use Rattle.ways.proofs.Reach.{scanned}
 use Rattle.ways.proofs.search.Search.scan.Goals as goal
-
-pub returns-then-self-clause-searching : goal.returns-then-self-clause-searching
-returns-then-self-clause-searching c =
-    let net = c.args.flow.now.net in
-    stopped (graph net) net.formed.laws (state c.args.flow.now) c.requires.sound c.args.u c.loop-a.a (tree c.loop-a.self) c.loop-a.invariant.1 c.loop-a.invariant.2 (omega (arith, ints, c.if-self.true))
 
 pub relax-requires-clause-arc : goal.relax-requires-clause-arc
 relax-requires-clause-arc c =
@@ -33,6 +27,7 @@ loop-a-preserved c =
       search rules,
       rw (tail_is (graph net) net.formed.laws c.args.u c.loop-a.a c.requires.hand.node c.loop-a.auto.a c.loop-a-test.true) at c.relax.ensures.searching,
       rw (tail_is (graph net) net.formed.laws c.args.u c.loop-a.a c.requires.hand.node c.loop-a.auto.a c.loop-a-test.true) at c.relax.ensures.hand,
+      search rules,
       search rules,
       search rules,
     )

@@ -11,3 +11,4 @@ invariant-loop-a l =
     × InHand (graph l.flow.net).nodes (tree l.self) l.u
     × (l.self.reached ≡ l.initial.self.reached)
     × (l.self.source ≡ l.initial.self.source)
+    × (l.self.within ≡ l.initial.self.within)

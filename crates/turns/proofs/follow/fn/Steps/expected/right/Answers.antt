@@ -2,7 +2,7 @@ use Rattle.std.proofs.Common.{◌≡◌, pos, unwrap_or, ◌∙◌, arith, to_z,
 use Rattle.std.proofs.lemmas.Int.{ints}
 use Rattle.grid.specs.Model.{field_of, HasRight, turns_right_from}
 use Rattle.grid.proofs.Near.{near_by_small}
-use Rattle.grid.proofs.Told.{told_or}
+use Rattle.grid.proofs.Told.{told_or, or_told}
 use Rattle.turns.proofs.Filling.{value_small}
 use Rattle.turns.proofs.follow.fn.Steps.expected.right.Goals as goal
 
@@ -13,5 +13,6 @@ returns c =
     let same : to_z w64 (of_z w64 c.unwrap_or.result) ≡ unwrap_or c.turns_right.result (pos 0) = omega (arith, ints, c.unwrap_or.ensures, small) in
     record {
       is = λ h. same ∙ told_or (HasRight f c.args.place) c.turns_right.result (turns_right_from f c.args.place) (pos 0) c.turns_right.ensures h;
+      none = λ h. same ∙ or_told (HasRight f c.args.place) c.turns_right.result (turns_right_from f c.args.place) (pos 0) c.turns_right.ensures h;
       small = omega (arith, ints, same, small);
     }
