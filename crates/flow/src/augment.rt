@@ -49,9 +49,9 @@ fn lesser(a: i64, b: i64) -> i64
     a.min(b)
 }
 
-// As much as the ends of the way found and its arcs take at their present unit costs. Sound, found and as many nodes are clauses here and
-// below: they hold between two steps, and no struct of both could keep them, since the search changes while the flow is read, and the flow
-// while the search is.
+// As much as the ends of the way found and its arcs take at their present unit costs. Sound and found are clauses here and below: they hold
+// between two steps and not within them. So is that both have as many nodes: a struct of flow and search that keeps it would be no plainer,
+// since `find` changes the search and reads the flow, and `send` the other way round, and each would take the struct apart.
 fn least_room(flow: &Flow, search: &Search) -> i64
     requires room { Roomy (graph flow.now.net).nodes search.now }
     requires sound { Sound (graph flow.now.net) (state flow.now) }

@@ -32,7 +32,7 @@ fn gain(arc: &Arc) -> i64
 }
 
 impl<'a> Lists<'a> {
-    // How many nodes they tell of.
+    // How many nodes they tell of. `Network::nodes` is of lists that are known to make a network, and these may be empty.
     fn nodes(&self) -> usize
         ensures { result ≡ (graph self.now).nodes }
     {

@@ -8,7 +8,8 @@ ghost use Rattle.grid.specs.Model.{field_of, IsPlace, HasRight, HasBelow, row, c
 
 use crate::field::Field;
 
-// A turn and what is seen at two places are handed on as they are: three numbers with no fact about all of them.
+// A place is asked of a field by its number: a type of places would have to name its field. A turn and what is seen at two places are
+// handed on as they are: three numbers with no fact about all of them.
 
 // By how many turns what is expected from a place where `from` was seen to one where `to` was is more than the difference: a turn
 // less where that is more than half a turn, a turn more where it is minus half a turn or less.

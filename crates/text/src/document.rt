@@ -118,6 +118,7 @@ pub fn read(heap: Global, text: &[u8]) -> Result<Document, Unread>
 {
     let mut draft = Draft::new(heap);
     for (number, line) in Lines(text).enumerate() {
+        // As a u64, for which there is no From.
         let at_line = |fault: Fault| -> Unread
             ensures { result ≡ stopped_at fault number }
         { fault.at(number as u64) };

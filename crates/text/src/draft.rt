@@ -41,26 +41,26 @@ impl Draft {
     fn with_turn(self, n: u64) -> Option<Draft>
         ensures { option_map notes result ≡ with_turn (notes self) n }
     {
-        match self.turn {
-            Some(_) => None,
-            None => Some(Draft {
-                turn: Some(n),
-                ..self
-            }),
+        if self.turn.is_some() {
+            return None;
         }
+        Some(Draft {
+            turn: Some(n),
+            ..self
+        })
     }
 
     // With one price for all steps; None where it has one.
     fn with_price(self, n: u64) -> Option<Draft>
         ensures { option_map notes result ≡ with_price (notes self) n }
     {
-        match self.price {
-            Some(_) => None,
-            None => Some(Draft {
-                price: Some(entry(n)),
-                ..self
-            }),
+        if self.price.is_some() {
+            return None;
         }
+        Some(Draft {
+            price: Some(entry(n)),
+            ..self
+        })
     }
 
     // With one more row, if it is one, as wide as the others.

@@ -38,8 +38,9 @@ fn crossing(from: usize, to: usize, price: u32) -> Edge
     }
 }
 
-// The edge across the step to the right from a place: from the square below the step to the one above. Its ends and its
-// price are others than those of an edge across a step down; what they share is `crossing`, and where the place lies.
+// The edge across the step to the right from a place: from the square below the step to the one above. Its ends and its price are others
+// than those of an edge across a step down. What they share is `crossing`; the two divisions that say where the place lies would be no shorter
+// as a function, which would need a clause for each.
 fn edge_right(field: &Field, place: usize) -> Edge
     requires { place < places (field_of field.now) }
     ensures { IsEdge (squares_edges (field_of field.now)) place result }

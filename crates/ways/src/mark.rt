@@ -45,7 +45,7 @@ pub(crate) fn unmeet(marks: &mut [Mark], v: usize)
     marks[v] = Mark::unmet(marks.len());
 }
 
-// Gives node `v` the label `d`, by arc `a`. The three are handed on as they are: each is of another list, and all are written at once.
+// Gives node `v` the label `d`, by arc `a`. `v` says which mark, the others are written into it, and no fact joins the three.
 pub(crate) fn relabel(marks: &mut [Mark], v: usize, a: usize, d: i64)
     requires { v < length marks.old }
     ensures place { (w : ℕ) → place_of marks.new w ≡ place_of marks.old w }

@@ -40,6 +40,7 @@ mod tests {
             right: &prices[0..places],
             below: &prices[0..places],
         };
+        // As a u64, for which the language has no From.
         let field = Field::take(&lent, places as u64).ok()?;
         Some(field.squares_off())
     }
