@@ -35,8 +35,8 @@ fn fill(flow: &mut Flow)
         (state flow.new).excess v ≡ ((state flow.old).excess v -ℤ started_out (graph flow.old.net) v (graph flow.old.net).arcs) }
 {
     let net = flow.net;
-    // The flow by number: a `zip` of it with the arcs was tried, and the borrow checker does not cover it yet. In two loops the second would read
-    // the flow by number.
+    // The flow by number: a `zip` of it with the arcs was tried, and the borrow checker does not cover it yet. Two loops, of which the
+    // second reads the flow zipped with the arcs, would be longer and no plainer.
     for (a, arc) in net.arcs.iter().enumerate() {
         let x = first_flow(&net, a);
         flow.flow[a] = x;

@@ -52,7 +52,7 @@ pub fn first_wrong(list: &[u32], places: u64, bound: u64) -> Option<u64>
 
 impl Lent<'_, '_, '_> {
     // Why a field, and a room of so many numbers for its turns, are turned away: the first reason that applies. An Option, as the verdict is
-    // that its contract names. In a `Result<(), Refusal>` each test below would be a `map_or(Ok(()), |place| Err(..))?`, and no plainer.
+    // that its one clause names: of a `Result<(), Refusal>` it would take two clauses to say that, to spare `take` a `match`.
     pub fn refusal(&self, room: u64) -> Option<Refusal>
         ensures { IsJudged self.now room result }
     {

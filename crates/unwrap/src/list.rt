@@ -39,8 +39,8 @@ fn crossing(from: usize, to: usize, price: u32) -> Edge
 }
 
 // The edge across the step to the right from a place: from the square below the step to the one above. Its ends and its price are others
-// than those of an edge across a step down. What they share is `crossing`; the two divisions that say where the place lies would be no shorter
-// as a function, which would need a clause for each.
+// than those of an edge across a step down. What they share is `crossing`, and two divisions that say where the place lies: `grid` has them in a
+// function of its own, which answers an Option that would have to be unwrapped here.
 fn edge_right(field: &Field, place: usize) -> Edge
     requires { place < places (field_of field.now) }
     ensures { IsEdge (squares_edges (field_of field.now)) place result }

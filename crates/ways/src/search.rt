@@ -81,6 +81,8 @@ impl<'m, 'o, 'f> Search<'m, 'o, 'f> {
         );
     }
 
+    // Nodes by number here and below, each with its bound as a clause: a type of such numbers would have to name its search.
+
     // Gives node `v` the label `d`, by arc `a`, and puts it at the end of the frontier if it was not met.
     fn improve(&mut self, v: usize, a: usize, d: i64)
         requires node { v < length self.old.order.now }
