@@ -3,3 +3,4 @@ pub mod Edges
 pub mod Grouping
 pub mod Placing
 pub mod Slots
+pub mod Listing

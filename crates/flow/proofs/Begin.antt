@@ -11,7 +11,7 @@ use Rattle.std.proofs.lemmas.List.{get_or-set_same, get_or-set_other}
 use Rattle.network.specs.Node.{excess_of, no_node}
 use Rattle.network.specs.declared.node.Node.{Node}
 use Rattle.network.specs.Graph.{Graph, Laws, gains, outflow, IsFlow, Priced}
-use Rattle.network.specs.Sound.{State, Sound, left, Later}
+use Rattle.network.specs.Sound.{State, Sound, left, leaving, coming, Later}
 use Rattle.network.proofs.Points.{cases_lt_ℤ, lt_yes, lt_no, unit_forward, unit_backward}
 use Rattle.ways.proofs.Walk.{up_none, up_some, parts}
 use Rattle.sums.proofs.Loop.{sum_ℤ_more}
@@ -209,6 +209,14 @@ module _ (g : Graph) (w : Laws g) where
           few = few';
         }
 
+leaving_ext : (g : Graph) (x y : ℕ → ℤ) (v : ℕ) → ((a : ℕ) → a < g.arcs → x a ≡ y a) → leaving g x v ≡ leaving g y v
+unfolding leaving
+leaving_ext g x y v h = sum_ℤ_ext g.arcs (λ a. cond (eqb (g.tail a) v) (pos (up (x a))) (pos 0)) (λ a. cond (eqb (g.tail a) v) (pos (up (y a))) (pos 0)) (λ a l. ap (λ (z : ℤ). cond (eqb (g.tail a) v) (pos (up z)) (pos 0)) (h a l))
+
+coming_ext : (g : Graph) (x y : ℕ → ℤ) (v : ℕ) → ((a : ℕ) → a < g.arcs → x a ≡ y a) → coming g x v ≡ coming g y v
+unfolding coming
+coming_ext g x y v h = sum_ℤ_ext g.arcs (λ a. cond (eqb (g.tail a) v) (pos (up (neg_ℤ (x a)))) (pos 0)) (λ a. cond (eqb (g.tail a) v) (pos (up (neg_ℤ (y a)))) (pos 0)) (λ a l. ap (λ (z : ℤ). cond (eqb (g.tail a) v) (pos (up (neg_ℤ z))) (pos 0)) (h a l))
+
 -- from the first flow to what the solver promises
 pub solved : (g : Graph) (e : ℕ → ℤ) (s s' : State) (place : ℕ → ℕ) (r : Result (Unit {0}) Stuck) → Started g e (sum_to g.nodes (λ v. up (e v))) s → Sound g s' → Later g s s' → Outcome g s' place r → Solved g e s' place r
 solved g e s s' place r b o l a =
@@ -218,5 +226,13 @@ solved g e s s' place r b o l a =
       bounded = o.bounded;
       supplies = λ v h. l.supplies v h ∙ b.supplies v h;
       moved = λ c h. omega (arith, ints, l.moved c h, ap nat_abs (b.flow c h), b.few);
+      leaves = λ v. omega (arith, ints, l.leaves v, leaving_same v, b.few);
+      comes = λ v. omega (arith, ints, l.comes v, coming_same v, b.few);
       answer = a;
     }
+  where
+    leaving_same : (v : ℕ) → leaving g s.flow v ≡ leaving g (started g) v
+    leaving_same v = leaving_ext g s.flow (started g) v b.flow
+
+    coming_same : (v : ℕ) → coming g s.flow v ≡ coming g (started g) v
+    coming_same v = coming_ext g s.flow (started g) v b.flow

@@ -1,3 +1,4 @@
+pub mod Gains
 pub mod Falls
 pub mod Rooms
 pub mod Sent

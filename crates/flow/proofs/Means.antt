@@ -1,34 +1,38 @@
 -- What the answers mean.
-use Rattle.std.proofs.Common.{ℕ, ltb, ℤ, arith, Result, Ok, Err}
+use Rattle.std.proofs.Common.{◌≡◌, ℕ, ◌<◌, ltb, ℤ, arith, Result, Ok, Err}
 use Rattle.std.proofs.lemmas.Int.{ints}
 use Rattle.std.proofs.lemmas.Bool.{ltb-true, ltb-false, lt-ltb}
-use Rattle.network.specs.Graph.{Graph, Laws}
-use Rattle.network.specs.Sound.{State}
+use Rattle.network.specs.Graph.{Graph, Laws, IsFlow, Priced}
+use Rattle.network.specs.Sound.{State, supply}
 use Rattle.duality.specs.Theorems.{Full}
 use Rattle.duality.proofs.Crossing.{full_infeasible, joined_never_full}
 use Rattle.duality.proofs.Cheapest.{priced_cheapest}
 use Rattle.flow.specs.declared.stuck.Stuck.{Stuck}
-use Rattle.flow.specs.Answer.{Solved, Meaning, NeverStuck}
+use Rattle.flow.specs.Answer.{Overfull, Outcome, Solved, Meaning, NeverStuck}
 
-is_full : (g : Graph) (e : ℕ → ℤ) (s : State) (place : ℕ → ℕ) (k : Stuck) → Solved g e s place (Err k) → Full g e s.flow (λ v. ltb (place v) k.nodes)
-is_full g e s place k o =
+is_full : (g : Graph) (e : ℕ → ℤ) (s : State) (place : ℕ → ℕ) (k : ℕ) → ((v : ℕ) → v < g.nodes → supply g s v ≡ e v) → Overfull g s place k → Full g e s.flow (λ v. ltb (place v) k)
+is_full g e s place k supplies o =
     record {
-      closed = λ a h p q. o.answer.closed a h (ltb-true (place (g.tail a)) k.nodes p) (ltb-false (place (g.head a)) k.nodes q);
-      none_lacking = λ v h p. omega (arith, ints, o.supplies v h, o.answer.none_lacking v h (ltb-true (place v) k.nodes p));
+      closed = λ a h p q. o.closed a h (ltb-true (place (g.tail a)) k p) (ltb-false (place (g.head a)) k q);
+      none_lacking = λ v h p. omega (arith, ints, supplies v h, o.none_lacking v h (ltb-true (place v) k p));
       some = (
-        o.answer.some.0,
-        o.answer.some.1,
-        lt-ltb (place o.answer.some.0) k.nodes o.answer.some.2,
-        omega (arith, ints, o.supplies o.answer.some.0 o.answer.some.1, o.answer.some.3),
+        o.some.0,
+        o.some.1,
+        lt-ltb (place o.some.0) k o.some.2,
+        omega (arith, ints, supplies o.some.0 o.some.1, o.some.3),
       );
     }
 
-pub meaning : (g : Graph) (w : Laws g) (e : ℕ → ℤ) (s : State) (place : ℕ → ℕ) (r : Result (Unit {0}) Stuck) → Solved g e s place r → Meaning g e s.flow r
-meaning g w e s place (Ok _) o = (
-  λ v h. omega (arith, ints, o.supplies v h, o.answer v h),
-  λ y f m. priced_cheapest g w e s.flow s.potential o.flows (λ v h. omega (arith, ints, o.supplies v h, o.answer v h)) o.priced y f m,
+-- a priced flow that meets the supplies, or a set that has more than can leave it
+pub means : (g : Graph) (w : Laws g) (e : ℕ → ℤ) (s : State) (place : ℕ → ℕ) (r : Result (Unit {0}) Stuck) → IsFlow g s.flow → Priced g s.flow s.potential → ((v : ℕ) → v < g.nodes → supply g s v ≡ e v) → Outcome g s place r → Meaning g e s.flow r
+means g w e s place (Ok _) flows priced supplies none = (
+  λ v h. omega (arith, ints, supplies v h, none v h),
+  λ y f m. priced_cheapest g w e s.flow s.potential flows (λ v h. omega (arith, ints, supplies v h, none v h)) priced y f m,
 )
-meaning g w e s place (Err k) o = λ y f m. full_infeasible g w e s.flow o.flows (λ v. ltb (place v) k.nodes) (is_full g e s place k o) y f m
+means g w e s place (Err k) flows priced supplies full = λ y f m. full_infeasible g w e s.flow flows (λ v. ltb (place v) k.nodes) (is_full g e s place k.nodes supplies full) y f m
+
+pub meaning : (g : Graph) (w : Laws g) (e : ℕ → ℤ) (s : State) (place : ℕ → ℕ) (r : Result (Unit {0}) Stuck) → Solved g e s place r → Meaning g e s.flow r
+meaning g w e s place r o = means g w e s place r o.flows o.priced o.supplies o.answer
 
 pub never : NeverStuck
-never g w e even joined s place k o = joined_never_full g w e s.flow o.flows even joined (λ v. ltb (place v) k.nodes) (is_full g e s place k o)
+never g w e even joined s place k o = joined_never_full g w e s.flow o.flows even joined (λ v. ltb (place v) k.nodes) (is_full g e s place k.nodes o.supplies o.answer)

@@ -39,7 +39,7 @@ unfolding left
 sent g w s p o t f d more enough wanted s' same k =
     record {
       sound = repriced g w s'.flow s'.excess p s'.potential (walked_sound g w S o t f d more S' K refl enough wanted) same;
-      later = record { supplies = (walked_later g w S o t f d more S' K refl enough wanted).supplies; moved = (walked_later g w S o t f d more S' K refl enough wanted).moved };
+      later = record { supplies = (walked_later g w S o t f d more S' K refl enough wanted).supplies; moved = (walked_later g w S o t f d more S' K refl enough wanted).moved; leaves = (walked_later g w S o t f d more S' K refl enough wanted).leaves; comes = (walked_later g w S o t f d more S' K refl enough wanted).comes };
       less = less' (left g S') (left g S) (fewer g w S o t f d more S' K refl enough wanted);
       quiet = walked_quiet g w S o t f d more S' K refl enough wanted;
     }
@@ -51,7 +51,7 @@ sent g w s p o t f d more enough wanted s' same k =
     S' = record { flow = s'.flow; excess = s'.excess; potential = p }
 
     K : Walking g S S' t t.source d
-    K = record { node = k.node; on = k.on; chain = k.chain; flows = k.flows; priced = k.priced; untouched = k.untouched; moved = k.moved; excess = k.excess; supplies = k.supplies }
+    K = record { node = k.node; on = k.on; chain = k.chain; flows = k.flows; priced = k.priced; untouched = k.untouched; moved = k.moved; leaves = k.leaves; leaves_before = k.leaves_before; comes = k.comes; comes_before = k.comes_before; excess = k.excess; supplies = k.supplies }
 
     less' : (m n : ℕ) → pos m ≡ (pos n -ℤ d) → m < n
     less' m n e = omega (arith, ints)
@@ -60,7 +60,7 @@ sent g w s p o t f d more enough wanted s' same k =
 pub augmented : (g : Graph) (w : Laws g) (s : State) (e p : ℕ → ℤ) → s.excess ≡ e → (o : Sound g (record { flow = s.flow; excess = e; potential = p })) (t : Tree) (f : Found g (record { flow = s.flow; excess = e; potential = p }) t) (d : ℤ) → pos 0 <ℤ d → d ≤ℤ e t.source → d ≤ℤ neg_ℤ (e t.target) → (s' : State) → ((v : ℕ) → s'.potential v ≡ p v) → Walking g (record { flow = s.flow; excess = e; potential = p }) s' t t.source d → Augmented g s s'
 unfolding left
 augmented g w s e p q o t f d more enough wanted s' same k =
-    record { sound = A.sound; later = record { supplies = rw q A.later.supplies; moved = rw q A.later.moved }; less = rw q A.less; quiet = rw q A.quiet }
+    record { sound = A.sound; later = record { supplies = rw q A.later.supplies; moved = rw q A.later.moved; leaves = rw q A.later.leaves; comes = rw q A.later.comes }; less = rw q A.less; quiet = rw q A.quiet }
   where
     A : Augmented g (record { flow = s.flow; excess = e; potential = s.potential }) s'
     A = sent g w (record { flow = s.flow; excess = e; potential = s.potential }) p o t f d more enough wanted s' same k
@@ -96,10 +96,10 @@ pub next_like : (v k : ℕ) → v < k + 31 → v % 31 ≡ k % 31 → (v < k) ⊎
 next_like v k l e = elim (cases_lt v k) [ inl h ↦ inl h | inr h ↦ inr (omega (arith, l, e, h)) ]
 
 pub later_none : (g : Graph) (s : State) → Later g s s
-later_none g s = record { supplies = λ v h. refl; moved = λ a h. omega arith }
+later_none g s = record { supplies = λ v h. refl; moved = λ a h. omega arith; leaves = λ v. omega (arith, ints); comes = λ v. omega (arith, ints) }
 
 pub later_more : (g : Graph) (s t u : State) → Later g s t → Later g t u → Later g s u
-later_more g s t u a b = record { supplies = λ v h. b.supplies v h ∙ a.supplies v h; moved = λ c h. omega (arith, a.moved c h, b.moved c h) }
+later_more g s t u a b = record { supplies = λ v h. b.supplies v h ∙ a.supplies v h; moved = λ c h. omega (arith, a.moved c h, b.moved c h); leaves = λ v. omega (arith, ints, a.leaves v, b.leaves v); comes = λ v. omega (arith, ints, a.comes v, b.comes v) }
 
 nothing_left : (g : Graph) (s : State) → ((v : ℕ) → v < g.nodes → s.excess v ≤ℤ pos 0) → left g s ≡ 0
 unfolding left

@@ -4,7 +4,7 @@ use borrow.Author.Differences.{up}
 use Rattle.sums.specs.Sum.{sum_ℤ, sum_to}
 use Rattle.network.specs.Graph.{Graph, Laws, gains, room, IsFlow, Priced}
 use Rattle.duality.specs.Theorems.{total_cost, Meets, Joined}
-use Rattle.network.specs.Sound.{State, Sound, supply, left, Later}
+use Rattle.network.specs.Sound.{State, Sound, supply, left, leaving, coming, Later}
 use Rattle.ways.specs.Tree.{Tree}
 use Rattle.ways.specs.Way.{OnWay, Chain}
 use Rattle.flow.specs.Start.{started}
@@ -37,14 +37,16 @@ abbrev pub Outcome : Graph → State → (ℕ → ℕ) → Result (Unit {0}) Stu
 Outcome g s place (Ok _) = (v : ℕ) → v < g.nodes → s.excess v ≡ pos 0
 Outcome g s place (Err stuck) = Overfull g s place stuck.nodes
 
--- what the solver promises of supplies e: a flow with potentials, of which |potential| is at most 2 n C and which an arc's flow has left by no more than
--- all supplies and all that arcs gain; and that the flow meets the supplies, or a set that shows that none does
+-- What the solver promises of supplies e: a flow with potentials, of which |potential| is at most 2 n C. By no more than all supplies and all that arcs gain does an
+-- arc's flow differ from the first one, and does more go through a node than at first. And the flow meets the supplies, or a set shows that none does.
 pub record Solved (g : Graph) (e : ℕ → ℤ) (s : State) (place : ℕ → ℕ) (r : Result (Unit {0}) Stuck) : Type 0 where
   pub flows : IsFlow g s.flow
   pub priced : Priced g s.flow s.potential
   pub bounded : (v : ℕ) → v < g.nodes → unsigned_abs (s.potential v) ≤ 2 ^ 31 * g.nodes
   pub supplies : (v : ℕ) → v < g.nodes → supply g s v ≡ e v
   pub moved : (a : ℕ) → a < g.arcs → (pos (unsigned_abs (s.flow a)) +ℤ pos (left g s)) ≤ℤ ((pos (unsigned_abs (started g a)) +ℤ pos (sum_to g.nodes (λ v. up (e v)))) +ℤ sum_ℤ g.arcs (gains g))
+  pub leaves : (v : ℕ) → (leaving g s.flow v +ℤ pos (left g s)) ≤ℤ ((leaving g (started g) v +ℤ pos (sum_to g.nodes (λ v. up (e v)))) +ℤ sum_ℤ g.arcs (gains g))
+  pub comes : (v : ℕ) → (coming g s.flow v +ℤ pos (left g s)) ≤ℤ ((coming g (started g) v +ℤ pos (sum_to g.nodes (λ v. up (e v)))) +ℤ sum_ℤ g.arcs (gains g))
   pub answer : Outcome g s place r
 
 -- that is: the flow meets the supplies, and none that does costs less; or none meets them

@@ -1,13 +1,13 @@
 -- What squares are off by.
 use Rattle.std.proofs.Common.{◌≡◌, ℕ, zero, suc, pred, ◌+◌, ◌-◌, ◌*◌, ◌<◌, ◌≤◌, ◌⊎◌, List, length, get_or, ℤ, pos, negsuc, ◌+ℤ◌, ◌-ℤ◌, ◌*ℤ◌, sym, refl, ap, ◌∙◌, inl, inr, mul-one, add-one, sub-one, arith}
 use Rattle.sums.specs.Sum.{sum_to}
-use Rattle.sums.proofs.Sum.{sum_ext, sum_at_most}
+use Rattle.sums.proofs.Sum.{sum_ext, sum_at_most, sum_longer}
 use Rattle.std.proofs.lemmas.Int.{ints}
 use Rattle.grid.specs.declared.square.Off.{Off}
 use Rattle.grid.specs.declared.square.Off.TheVariants.{Less, Back, More}
 use Rattle.grid.specs.Field.{Field, near, round}
 use Rattle.grid.specs.Model.{column, row}
-use Rattle.grid.specs.Square.{round_of, round_from, off_by, is_off, counted, squares_off, off_between, row_off, Compared}
+use Rattle.grid.specs.Square.{round_of, round_from, off_by, is_off, counted, squares_off, off_below, off_between, row_off, Compared}
 use Rattle.grid.proofs.Near.{round_one_turn}
 
 -- a number that is nothing, a turn more or a turn less is told by its sign
@@ -99,14 +99,24 @@ pub rows_most : (f : Field) (n : ℕ) → rows_to f n ≤ n * f.wide
 unfolding rows_to
 rows_most f n = sum_at_most n f.wide _ (λ y l. omega (arith, pred_le f.wide, mul-one (pred f.wide), sum_at_most (pred f.wide) 1 (λ x. is_off (round f x y)) (λ x k. is_off_most (round f x y))))
 
-pub rows_more : (f : Field) (y : ℕ) (us ls : List ℕ) → length us ≡ f.wide →
+pub rows_more : (f : Field) (y : ℕ) → rows_to f (y + 1) ≡ rows_to f y + off_below f y
+unfolding rows_to off_below sum_to
+rows_more f y = rw (add-one y) refl
+
+-- of more rows no fewer are off
+rows_longer : (f : Field) (y n : ℕ) → y ≤ n → rows_to f y ≤ rows_to f n
+unfolding rows_to
+rows_longer f y n l = sum_longer y n (λ y. sum_to (pred f.wide) (λ x. is_off (round f x y))) l
+
+pub rows_fewer : (f : Field) (y : ℕ) → y ≤ f.high - 1 → rows_to f y ≤ squares_off f
+rows_fewer f y l = omega (arith, rows_longer f y (f.high - 1) l, rows_all f)
+
+pub row_is_off : (f : Field) (y : ℕ) (us ls : List ℕ) → length us ≡ f.wide →
     ((x : ℕ) → x < f.wide → get_or us x 0 ≡ f.seen x y) → ((x : ℕ) → x < f.wide → get_or ls x 0 ≡ f.seen x (y + 1)) →
-    rows_to f (y + 1) ≡ rows_to f y + row_off f.turn us ls
-unfolding rows_to row_off sum_to
-rows_more f y us ls m p q =
-    rw (add-one y)
-    (ap (λ (z : ℕ). rows_to f y + z)
-    (sum_ext (pred f.wide) _ _ (λ x l. same x (pred_less x f.wide l)) ∙ ap (λ (n : ℕ). sum_to (pred n) (off_between f.turn us ls)) (sym m)))
+    row_off f.turn us ls ≡ off_below f y
+unfolding row_off off_below
+row_is_off f y us ls m p q =
+    sym (sum_ext (pred f.wide) _ _ (λ x l. same x (pred_less x f.wide l)) ∙ ap (λ (n : ℕ). sum_to (pred n) (off_between f.turn us ls)) (sym m))
   where
     same : (x : ℕ) → suc x < f.wide → is_off (round f x y) ≡ off_between f.turn us ls x
     same x l =

@@ -40,6 +40,10 @@ counted Less = 1
 counted Back = 0
 counted More = 1
 
+-- how many squares of a row are off
+unfoldable pub off_below : Field → ℕ → ℕ
+off_below f y = sum_to (pred f.wide) (λ x. is_off (round f x y))
+
 -- how many squares are off
 unfoldable pub squares_off : Field → ℕ
 squares_off f = sum_to (pred f.high) (λ y. sum_to (pred f.wide) (λ x. is_off (round f x y)))

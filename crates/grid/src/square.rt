@@ -1,7 +1,7 @@
 // What squares are off by.
-ghost use Rattle.std.specs.Prelude.{◌≡◌, ◌<◌, pos, ◌*ℤ◌, IfSome, IfNone};
+ghost use Rattle.std.specs.Prelude.{◌≡◌, ◌+◌, ◌<◌, ◌↔◌, pos, ◌*ℤ◌, IfSome, IfNone, IsTrue};
 ghost use Rattle.grid.specs.Model.{field_of};
-ghost use Rattle.grid.specs.Square.{round_of, round_from, off_by, counted, row_off, squares_off, Compared, HasSquare, Rows};
+ghost use Rattle.grid.specs.Square.{round_of, round_from, off_by, counted, row_off, off_below, squares_off, Compared, HasSquare, Rows};
 
 use crate::field::Field;
 use crate::steps::expected;
@@ -80,6 +80,14 @@ fn row_off(turn: u32, upper: &[u32], lower: &[u32]) -> usize
 }
 
 impl Field {
+    // How many squares are off between a row and the one below it.
+    fn off_below(&self, y: usize) -> usize
+        requires { y + 1 < self.now.high }
+        ensures { result ≡ off_below (field_of self.now) y }
+    {
+        row_off(self.turn, self.seen_row(y), self.seen_row(y + 1))
+    }
+
     // How many squares are off.
     pub fn squares_off(&self) -> usize
         ensures { result ≡ squares_off (field_of self.now) }
@@ -87,8 +95,20 @@ impl Field {
         let mut off = 0;
         // Rows by number: a field is asked for them, and they are elements of no list.
         for y in 0..self.high - 1 {
-            off += row_off(self.turn, self.seen_row(y), self.seen_row(y + 1));
+            off += self.off_below(y);
         }
         off
+    }
+
+    // Whether all comes back round every square. The first row of squares of which one does not is the last that is looked at.
+    pub fn comes_back(&self) -> bool
+        ensures { IsTrue result ↔ (squares_off (field_of self.now) ≡ 0) }
+    {
+        for y in 0..self.high - 1 {
+            if self.off_below(y) > 0 {
+                return false;
+            }
+        }
+        true
     }
 }

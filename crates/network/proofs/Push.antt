@@ -1,12 +1,13 @@
 -- What a push along one arc leaves: it is a flow still, priced if the arc's reduced cost was 0, and moves excess from tail to head.
-use Rattle.std.proofs.Common.{◌≡◌, ℕ, ◌+◌, ◌<◌, ◌≤◌, cond, eqb, ◌⊎◌, ℤ, pos, ◌+ℤ◌, ◌-ℤ◌, neg_ℤ, nat_abs, ◌≤ℤ◌, ◌<ℤ◌, sym, refl, ap, ◌∙◌, inl, inr, arith}
+use Rattle.std.proofs.Common.{◌≡◌, ℕ, ◌+◌, ◌<◌, ◌≤◌, cond, eqb, ◌⊎◌, ℤ, pos, negsuc, ◌+ℤ◌, ◌-ℤ◌, neg_ℤ, nat_abs, ◌≤ℤ◌, ◌<ℤ◌, sym, refl, ap, ◌∙◌, inl, inr, arith}
+use borrow.Author.Differences.{up}
 use Rattle.std.proofs.lemmas.Int.{ints}
 use Rattle.std.proofs.lemmas.Bool.{eq-eqb, ne_eqb, cases_eq, cond-true, cond-false}
 use Rattle.sums.specs.Sum.{sum_ℤ}
-use Rattle.sums.proofs.Sum.{sum_ℤ_ext, sum_ℤ_add, sum_ℤ_neg}
+use Rattle.sums.proofs.Sum.{sum_ℤ_ext, sum_ℤ_le, sum_ℤ_add, sum_ℤ_neg}
 use Rattle.sums.proofs.Points.{point_sum}
 use Rattle.network.specs.Graph.{Graph, at, Laws, unit_cost, room, reduced_cost, outflow, IsFlow, Priced}
-use Rattle.network.specs.Sound.{State, Pushed}
+use Rattle.network.specs.Sound.{State, Pushed, leaving, coming}
 use Rattle.network.proofs.Points.{cases_lt_ℤ, at_same, at_other, at_neg, unit_forward, unit_backward, unit_same, room_forward, room_backward, head_pair}
 
 module _ (g : Graph) (w : Laws g) (x y : ℕ → ℤ) (a : ℕ) (l : a < g.arcs) (d : ℤ) (changed : (b : ℕ) → y b ≡ ((x b +ℤ at a d b) -ℤ at (g.pair a) d b)) where
@@ -121,6 +122,86 @@ module _ (g : Graph) (w : Laws g) (x y : ℕ → ℤ) (a : ℕ) (l : a < g.arcs)
 
       agree : sum_ℤ g.arcs (λ b. cond (eqb (g.tail b) v) (y b) (pos 0)) ≡ sum_ℤ g.arcs (λ b. (X b +ℤ A b) +ℤ neg_ℤ (B b))
       agree = sum_ℤ_ext g.arcs (λ b. cond (eqb (g.tail b) v) (y b) (pos 0)) (λ b. (X b +ℤ A b) +ℤ neg_ℤ (B b)) (λ b h. out_term v b h)
+
+-- ---- what goes through a node
+
+up_more : (z d : ℤ) → pos 0 ≤ℤ d → pos (up (z +ℤ d)) ≤ℤ (pos (up z) +ℤ d)
+up_more z d h = up_split z (z +ℤ d) d refl h
+  where
+    up_split : (z y d : ℤ) → y ≡ (z +ℤ d) → pos 0 ≤ℤ d → pos (up y) ≤ℤ (pos (up z) +ℤ d)
+    up_split (pos n) (pos m) d e h = omega (arith, ints)
+    up_split (pos n) (negsuc m) d e h = omega (arith, ints)
+    up_split (negsuc n) (pos m) d e h = omega (arith, ints)
+    up_split (negsuc n) (negsuc m) d e h = omega (arith, ints)
+
+up_less : (z y d : ℤ) → y ≡ (z -ℤ d) → pos 0 ≤ℤ d → pos (up y) ≤ℤ pos (up z)
+up_less (pos n) (pos m) d e h = omega (arith, ints)
+up_less (pos n) (negsuc m) d e h = omega (arith, ints)
+up_less (negsuc n) (pos m) d e h = absurd (omega (arith, ints))
+up_less (negsuc n) (negsuc m) d e h = omega (arith, ints)
+
+-- y is x with d more at one place, whose tail is t, and no more at any other
+module _ (g : Graph) (x y : ℕ → ℤ) (a : ℕ) (l : a < g.arcs) (d : ℤ) (least : pos 0 ≤ℤ d) (here : y a ≡ (x a +ℤ d)) (other : (b : ℕ) → b < g.arcs → (b ≡ a → ⊥) → pos (up (y b)) ≤ℤ pos (up (x b))) where
+  term : (v b : ℕ) → b < g.arcs → cond (eqb (g.tail b) v) (pos (up (y b))) (pos 0) ≤ℤ (cond (eqb (g.tail b) v) (pos (up (x b))) (pos 0) +ℤ at a (at (g.tail a) d v) b)
+  term v b h = elim (cases_eq (g.tail b) v) [
+    | inl e ↦ elim (cases_eq b a) [
+      | inl q ↦ omega (arith, ints, yes (y b) e, yes (x b) e, at_same a b (at (g.tail a) d v) q, at_same (g.tail a) v d (sym e ∙ ap g.tail q), ap (λ (i : ℕ). pos (up (y i))) q, ap (λ (i : ℕ). pos (up (x i))) q, more)
+      | inr n ↦ omega (arith, ints, yes (y b) e, yes (x b) e, at_other a b (at (g.tail a) d v) n, other b h n)
+    ]
+    | inr m ↦ omega (arith, ints, no (y b) m, no (x b) m, part b)
+  ]
+    where
+      yes : (z : ℤ) → (g.tail b ≡ v) → cond (eqb (g.tail b) v) (pos (up z)) (pos 0) ≡ pos (up z)
+      yes z e = cond-true (eqb (g.tail b) v) (pos (up z)) (pos 0) (eq-eqb (g.tail b) v e)
+
+      no : (z : ℤ) → (g.tail b ≡ v → ⊥) → cond (eqb (g.tail b) v) (pos (up z)) (pos 0) ≡ pos 0
+      no z n = cond-false (eqb (g.tail b) v) (pos (up z)) (pos 0) (ne_eqb (g.tail b) v n)
+
+      more : pos (up (y a)) ≤ℤ (pos (up (x a)) +ℤ d)
+      more = rw here (up_more (x a) d least)
+
+      part : (b : ℕ) → pos 0 ≤ℤ at a (at (g.tail a) d v) b
+      part b = elim (cases_eq b a) [
+        | inl q ↦ elim (cases_eq v (g.tail a)) [
+          | inl r ↦ omega (arith, ints, at_same a b (at (g.tail a) d v) q, at_same (g.tail a) v d r, least)
+          | inr r ↦ omega (arith, ints, at_same a b (at (g.tail a) d v) q, at_other (g.tail a) v d r)
+        ]
+        | inr n ↦ omega (arith, ints, at_other a b (at (g.tail a) d v) n)
+      ]
+
+  -- so the sum of what is above 0 at v is no more but at the tail, and there by d at most
+  pub grown : (v : ℕ) → sum_ℤ g.arcs (λ b. cond (eqb (g.tail b) v) (pos (up (y b))) (pos 0)) ≤ℤ (sum_ℤ g.arcs (λ b. cond (eqb (g.tail b) v) (pos (up (x b))) (pos 0)) +ℤ at (g.tail a) d v)
+  grown v =
+      omega (
+        arith,
+        ints,
+        sum_ℤ_le g.arcs (λ b. cond (eqb (g.tail b) v) (pos (up (y b))) (pos 0)) (λ b. cond (eqb (g.tail b) v) (pos (up (x b))) (pos 0) +ℤ at a (at (g.tail a) d v) b) (term v),
+        sum_ℤ_add g.arcs (λ b. cond (eqb (g.tail b) v) (pos (up (x b))) (pos 0)) (λ b. at a (at (g.tail a) d v) b),
+        point_sum g.arcs a (at (g.tail a) d v) l,
+      )
+
+module _ (g : Graph) (w : Laws g) (x y : ℕ → ℤ) (a : ℕ) (l : a < g.arcs) (d : ℤ) (changed : (b : ℕ) → y b ≡ ((x b +ℤ at a d b) -ℤ at (g.pair a) d b)) (least : pos 0 ≤ℤ d) where
+  pub pushed_leaving : (v : ℕ) → leaving g y v ≤ℤ (leaving g x v +ℤ at (g.tail a) d v)
+  unfolding leaving
+  pushed_leaving v = grown g x y a l d least (pushed_here g w x y a l d changed) other v
+    where
+      other : (b : ℕ) → b < g.arcs → (b ≡ a → ⊥) → pos (up (y b)) ≤ℤ pos (up (x b))
+      other b h n = elim (cases_eq b (g.pair a)) [
+        | inl q ↦ rw q (up_less (x (g.pair a)) (y (g.pair a)) d (pushed_back g w x y a l d changed) least)
+        | inr m ↦ omega (arith, ints, ap (λ (z : ℤ). pos (up z)) (pushed_other g w x y a l d changed b n m))
+      ]
+
+  pub pushed_coming : (v : ℕ) → coming g y v ≤ℤ (coming g x v +ℤ at (g.head a) d v)
+  unfolding coming
+  pushed_coming v =
+      rw (w.arc a l).turned at
+      (grown g (λ b. neg_ℤ (x b)) (λ b. neg_ℤ (y b)) (g.pair a) (w.arc a l).pair d least (omega (arith, ints, pushed_back g w x y a l d changed)) other v)
+    where
+      other : (b : ℕ) → b < g.arcs → (b ≡ g.pair a → ⊥) → pos (up (neg_ℤ (y b))) ≤ℤ pos (up (neg_ℤ (x b)))
+      other b h n = elim (cases_eq b a) [
+        | inl q ↦ rw q (up_less (neg_ℤ (x a)) (neg_ℤ (y a)) d (omega (arith, ints, pushed_here g w x y a l d changed)) least)
+        | inr m ↦ omega (arith, ints, ap (λ (z : ℤ). pos (up (neg_ℤ z))) (pushed_other g w x y a l d changed b m n))
+      ]
 
 -- a push made of four single changes, by p, which is d, at one end of an arc and m, which is minus d, at the other
 pub pushed_of :

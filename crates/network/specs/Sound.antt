@@ -1,5 +1,5 @@
 -- The state of a solver: a flow, what each node has in excess of it, and potentials.
-use Rattle.std.specs.Prelude.{◌≡◌, ℕ, ◌+◌, ◌*◌, ◌^◌, ◌<◌, ◌≤◌, ℤ, pos, ◌+ℤ◌, ◌-ℤ◌, ◌<ℤ◌, slice_index_or, unsigned_abs}
+use Rattle.std.specs.Prelude.{◌≡◌, ℕ, ◌+◌, ◌*◌, ◌^◌, ◌<◌, ◌≤◌, if◌then◌else◌, ◌==◌, ℤ, pos, ◌+ℤ◌, ◌-ℤ◌, neg_ℤ, ◌≤ℤ◌, ◌<ℤ◌, slice_index_or, unsigned_abs}
 use borrow.Author.Differences.{up}
 use Rattle.sums.specs.Sum.{sum_to, sum_ℤ}
 use Rattle.network.specs.Graph.{Graph, at, outflow, IsFlow, Priced}
@@ -36,10 +36,21 @@ pub record Sound (g : Graph) (s : State) : Type 0 where
 abbrev pub supply : Graph → State → ℕ → ℤ
 supply g s v = s.excess v +ℤ outflow g s.flow v
 
--- from one state to a later one: supplies stay, and an arc's flow has moved by no more than the units that have gone
+-- what leaves node v along arcs on which something leaves it
+unfoldable pub leaving : Graph → (ℕ → ℤ) → ℕ → ℤ
+leaving g x v = sum_ℤ g.arcs (λ a. if g.tail a == v then pos (up (x a)) else pos 0)
+
+-- what comes to it along the others
+unfoldable pub coming : Graph → (ℕ → ℤ) → ℕ → ℤ
+coming g x v = sum_ℤ g.arcs (λ a. if g.tail a == v then pos (up (neg_ℤ (x a))) else pos 0)
+
+-- From one state to a later one: supplies stay, and neither an arc's flow has moved nor what goes through a node has grown by more than the units
+-- that have gone.
 pub record Later (g : Graph) (s t : State) : Type 0 where
   pub supplies : (v : ℕ) → v < g.nodes → supply g t v ≡ supply g s v
   pub moved : (a : ℕ) → a < g.arcs → unsigned_abs (t.flow a) + left g t ≤ unsigned_abs (s.flow a) + left g s
+  pub leaves : (v : ℕ) → (leaving g t.flow v +ℤ pos (left g t)) ≤ℤ (leaving g s.flow v +ℤ pos (left g s))
+  pub comes : (v : ℕ) → (coming g t.flow v +ℤ pos (left g t)) ≤ℤ (coming g s.flow v +ℤ pos (left g s))
 
 -- d units have gone along arc a
 pub record Pushed (g : Graph) (s t : State) (a : ℕ) (d : ℤ) : Type 0 where

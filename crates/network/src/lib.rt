@@ -9,4 +9,4 @@ mod node;
 pub use arc::Arc;
 pub use flow::{Flow, add};
 pub use network::Network;
-pub use node::Node;
+pub use node::{Node, add_excess};

@@ -10,9 +10,9 @@ pub struct Node {
 
 ghost use Rattle.network.specs.Node.{excess_of, Given};
 
-// Gives node `v` so much more in excess. By the name that a push has for it, as `raise` in `flow` has for potentials: both are one `+=`,
-// each of a field of its own.
-pub(crate) fn add_excess(nodes: &mut [Node], v: usize, d: i64)
+/// Gives node `v` so much more in excess.
+// By the name that a push has for it, as `raise` in `flow` has for potentials: both are one `+=`, each of a field of its own.
+pub fn add_excess(nodes: &mut [Node], v: usize, d: i64)
     requires node { v < length nodes.old }
     requires small { unsigned_abs (excess_of nodes.old v) ≤ 2 ^ 62 }
     requires small_change { unsigned_abs d < 2 ^ 62 }

@@ -1,13 +1,11 @@
 -- The edges of squares are lawful, and as none costs less than nothing the first flow is none.
-use Rattle.std.proofs.Common.{◌≡◌, ℕ, suc, ◌+◌, ◌-◌, ◌/◌, ◌%◌, ◌^◌, ◌<◌, ◌≤◌, false, cond, ltb, ◌⊎◌, ℤ, pos, ◌+ℤ◌, neg_ℤ, nat_abs, ◌≤ℤ◌, ap, ◌∙◌, inl, inr, mul_comm, arith}
-use lib.Signed.{lt_z}
+use Rattle.std.proofs.Common.{◌≡◌, ℕ, suc, ◌+◌, ◌-◌, ◌/◌, ◌%◌, ◌^◌, ◌<◌, ◌≤◌, ltb, ◌⊎◌, ℤ, pos, ◌+ℤ◌, nat_abs, ◌≤ℤ◌, ap, inl, inr, mul_comm, arith}
 use Rattle.std.proofs.lemmas.Int.{ints}
-use Rattle.std.proofs.lemmas.Bool.{cond_both, cond-false, ltb-true, ltb-false}
+use Rattle.std.proofs.lemmas.Bool.{cond_both, ltb-true, ltb-false}
 use Rattle.std.proofs.lemmas.Nat.{div_below, mod_below}
-use Rattle.sums.proofs.Sum.{sum_ℤ_zero}
 use Rattle.grid.specs.Field.{Field}
-use Rattle.network.specs.Graph.{Graph, gains}
-use Rattle.network.proofs.Points.{lt_no}
+use Rattle.network.specs.Graph.{Graph}
+use Rattle.flow.proofs.Gains.{no_gains}
 use Rattle.edges.specs.Edges.{Built}
 use Rattle.squares.specs.Squares.{node, places, joined, squares_edges}
 use Rattle.squares.specs.Promise.{EdgesLie, StartsEmpty}
@@ -58,10 +56,4 @@ arc_costs f g arc b a l = by (b.edge a l).0 (b.edge a l).1 (b.edge a l).2
     by e k (inr p) = omega (arith, ints, ap g.cost p, b.back e k, (edge_costs f e).1)
 
 pub starts_empty : StartsEmpty
-starts_empty f g arc b = (
-  sum_ℤ_zero g.arcs (gains g) (λ a l. cond-false (lt_z (g.cost a) (pos 0)) (g.limit a) (pos 0) (dear a l)),
-  λ w a l. cond-false (lt_z (g.cost a) (pos 0)) (g.limit a) (cond (lt_z (g.cost (g.pair a)) (pos 0)) (neg_ℤ (g.limit (g.pair a))) (pos 0)) (dear a l) ∙ cond-false (lt_z (g.cost (g.pair a)) (pos 0)) (neg_ℤ (g.limit (g.pair a))) (pos 0) (dear (g.pair a) (w.arc a l).pair),
-)
-  where
-    dear : (a : ℕ) → a < g.arcs → lt_z (g.cost a) (pos 0) ≡ false
-    dear a l = lt_no (g.cost a) (pos 0) (arc_costs f g arc b a l)
+starts_empty f g arc b = no_gains g (arc_costs f g arc b)

@@ -5,9 +5,9 @@ use Rattle.grid.specs.Field.{Field, turns_in}
 use Rattle.grid.specs.Model.{HasRight, HasBelow, turns_right_from, turns_below_from}
 use Rattle.laws.specs.Cost.{integral}
 
--- a list of steps, none of more turns than are followed
+-- a list of steps, none of more turns than are followed: twice as many as a field has places, and one that is expected
 abbrev pub StepsSmall : List ℤ → Type 0
-StepsSmall ds = (k : ℕ) → unsigned_abs (slice_index_or ds k (pos 0)) ≤ 8000
+StepsSmall ds = (k : ℕ) → unsigned_abs (slice_index_or ds k (pos 0)) ≤ 8193
 
 -- a row that follows steps from its first number on
 pub record Follows (start : ℤ) (ds us : List ℤ) : Type 0 where
@@ -16,7 +16,7 @@ pub record Follows (start : ℤ) (ds us : List ℤ) : Type 0 where
 -- a room that follows steps down its first column and along each row
 pub record Integrated (wide high : ℕ) (right below room : List ℤ) : Type 0 where
   pub at : (x y : ℕ) → x < wide → y < high → turns_in wide room x y ≡ integral (turns_in wide right) (turns_in wide below) x y
-  pub small : (k : ℕ) → k < wide * high → unsigned_abs (slice_index_or room k (pos 0)) ≤ 1024000
+  pub small : (k : ℕ) → k < wide * high → unsigned_abs (slice_index_or room k (pos 0)) ≤ 1032318
 
 -- the steps that one expects of a field, in turns, and 0 where there are none
 pub record Expected (f : Field) (right below : List ℤ) : Type 0 where

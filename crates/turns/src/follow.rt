@@ -50,12 +50,12 @@ impl Steps {
 
 // Writes a row that follows steps from its first number on.
 fn follow_row(start: i64, steps: &[i64], row: &mut [i64])
-    requires start_bound { unsigned_abs start ≤ 512000 }
+    requires start_bound { unsigned_abs start ≤ 516159 }
     requires steps_len { length steps.now ≡ length row.old }
     requires row_len_bound { length row.old ≤ 64 }
     requires steps_small { StepsSmall steps.now }
     ensures is { Follows start steps.now row.new }
-    ensures small { (k : ℕ) → unsigned_abs (slice_index_or row.new k (pos 0)) ≤ 1024000 }
+    ensures small { (k : ℕ) → unsigned_abs (slice_index_or row.new k (pos 0)) ≤ 1032318 }
 {
     let mut at = start;
     // Steps by number: over `row.iter_mut().zip(steps)` the proof did not close, since nothing is known of what such a loop has written.

@@ -23,6 +23,6 @@ added_more n arcs flow before after v h l e = record {
 pub added_all : (n : ℕ) (arcs : List ℕ) (flow before after : List ℤ) → n ≡ length arcs → AddedTo n arcs flow before after → Added arcs flow before after
 added_all n arcs flow before after e h = record { crossed = λ p l. h.crossed p (omega arith); rest = λ p l. h.rest p (omega arith) }
 
-pub added_small : (arcs : List ℕ) (flow before after : List ℤ) → Added arcs flow before after → Addable arcs flow before → (p : ℕ) → nat_abs (get_or after p (pos 0)) ≤ 8000
+pub added_small : (arcs : List ℕ) (flow before after : List ℤ) → Added arcs flow before after → Addable arcs flow before → (p : ℕ) → nat_abs (get_or after p (pos 0)) ≤ 8193
 added_small arcs flow before after h a p =
     ⊎_elim (λ l. omega (arith, ints, h.crossed p l, a.small p l, a.expected p)) (λ l. omega (arith, ints, h.rest p l, a.expected p)) (cases_lt p (length arcs))

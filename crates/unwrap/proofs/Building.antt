@@ -1,5 +1,5 @@
 -- A network of the edges between a field's squares.
-use Rattle.std.proofs.Common.{◌≡◌, ℕ, ◌+◌, ◌*◌, ◌^◌, ◌<◌, ◌≤◌, Bool, true, false, cond, ltb, List, length, get_or, take, replicate, ℤ, pos, ◌+ℤ◌, sym, refl, ◌∙◌, subst, arith}
+use Rattle.std.proofs.Common.{◌≡◌, ℕ, ◌+◌, ◌*◌, ◌^◌, ◌<◌, ◌≤◌, Bool, true, false, cond, ltb, ◌⊎◌, List, length, take, replicate, ℤ, pos, ◌+ℤ◌, sym, refl, ap, ◌∙◌, subst, inl, inr, arith}
 use lib.ListN.{length-replicate}
 use Rattle.std.proofs.lemmas.List.{length-take-le}
 use Rattle.std.proofs.lemmas.Int.{ints}
@@ -8,18 +8,14 @@ use Rattle.sums.proofs.Sum.{sum_ℤ_zero}
 use Rattle.grid.specs.Field.{Field}
 use Rattle.grid.specs.declared.field.Field.{Field as Held}
 use Rattle.grid.specs.Model.{field_of}
-use Rattle.network.specs.Graph.{Graph, Laws, WellFormed, graph_of}
+use Rattle.network.specs.Graph.{Graph}
 use Rattle.edges.specs.Edges.{Edges, Built, Lawful}
-use Rattle.edges.specs.Grouped.{gain, grouped, FitEdges}
-use Rattle.edges.specs.Ends.{from_of, to_of}
-use Rattle.edges.specs.Lists.{edges_of, arcs_of}
-use Rattle.edges.specs.Placed.{Placed}
-use Rattle.edges.specs.Slots.{base}
+use Rattle.edges.specs.Grouped.{gain, FitEdges}
+use Rattle.edges.specs.Lists.{edges_of}
 use Rattle.edges.specs.declared.edge.Edge.{Edge}
-use Rattle.edges.specs.declared.lists.ArcLists.{ArcLists}
-use Rattle.edges.proofs.Grouping.{grouped_is_network}
+use Rattle.merged.specs.Merged.{Unlimited}
 use Rattle.squares.specs.Squares.{places, squares_edges}
-use Rattle.squares.proofs.Start.{edges_lie}
+use Rattle.squares.proofs.Start.{edges_lie, arc_costs}
 use Rattle.unwrap.specs.Listed.{AreSquares}
 use Rattle.unwrap.proofs.Fitting.{few_places}
 
@@ -95,37 +91,17 @@ built_of f es g arc s b = record {
     back : (e : ℕ) → e < (squares_edges f).count → e < es.count
     back e l = subst (λ (n : ℕ). e < n) (sym s.count_is) l
 
--- a network whose nodes and arcs are counted another way
-abbrev counted : Graph → ℕ → ℕ → Graph
-counted g n k =
-    record {
-      nodes = n;
-      arcs = k;
-      first = g.first;
-      tail = g.tail;
-      head = g.head;
-      pair = g.pair;
-      cost = g.cost;
-      limit = g.limit;
-    }
+-- no arc costs less than nothing, and none has a limit that counts
+pub unlimited_of : (f : Field) (g : Graph) (arc : ℕ → ℕ) → Built (squares_edges f) g arc → Unlimited g
+unlimited_of f g arc b = record { cheap = arc_costs f g arc b; wide = λ a l. by a (b.edge a l) }
+  where
+    by : (a : ℕ) → ((e : ℕ) × (e < (squares_edges f).count) × ((arc e ≡ a) ⊎ (g.pair (arc e) ≡ a))) → g.limit a ≡ pos (2 ^ 60)
+    by a (e, k, inl p) = ap g.limit (sym p) ∙ (b.limit e k ∙ limit_same f e)
+    by a (e, k, inr p) = ap g.limit (sym p) ∙ (b.back_limit e k ∙ (back_limit_same f e ∙ limit_same f e))
 
-laws_counted : (g : Graph) (n k : ℕ) → n ≡ g.nodes → k ≡ g.arcs → Laws g → Laws (counted g n k)
-laws_counted g n k p q w = subst (λ (i : ℕ). Laws (counted g i k)) (sym p) (subst (λ (i : ℕ). Laws (counted g g.nodes i)) (sym q) w)
-
-built_counted : (es : Edges) (g : Graph) (arc : ℕ → ℕ) (n k : ℕ) → n ≡ g.nodes → k ≡ g.arcs → Built es g arc → Built es (counted g n k) arc
-built_counted es g arc n k p q b = subst (λ (i : ℕ). Built es (counted g i k) arc) (sym p) (subst (λ (i : ℕ). Built es (counted g g.nodes i) arc) (sym q) b)
-
--- arcs that are grouped are a network of the squares
-module _ (f : Held) (edges : List Edge) (n : ℕ) (first : List ℕ) (lists : ArcLists) (is : n ≡ places (field_of f)) (squares : AreSquares (field_of f) (edges_of edges)) (nodes : length first ≡ n + 1)
-    (arcs : length lists.arcs.now ≡ length edges * 2) (begins : (v : ℕ) → v ≤ n → get_or first v 0 ≡ base (from_of edges) (to_of edges) (length edges) v) (placed : Placed (edges_of edges) n (length edges) (arcs_of lists)) where
-  made : Laws (grouped n (edges_of edges) (λ v. get_or first v 0) (arcs_of lists)) × Built (edges_of edges) (grouped n (edges_of edges) (λ v. get_or first v 0) (arcs_of lists)) (arcs_of lists).arc
-  made = grouped_is_network (edges_of edges) n (λ v. get_or first v 0) (arcs_of lists) (subst (FitEdges (edges_of edges)) (sym is) (fit_of f (edges_of edges) squares)) begins placed
-
-  pub made_formed : WellFormed first lists.arcs.now
-  made_formed = record { some = omega (arith, nodes); laws = laws_counted (grouped n (edges_of edges) (λ v. get_or first v 0) (arcs_of lists)) _ _ (omega (arith, nodes)) arcs made.0 }
-
-  pub made_built : Built (squares_edges (field_of f)) (graph_of first lists.arcs.now) (λ e. get_or lists.arc_of.now e 0)
-  made_built = built_of (field_of f) (edges_of edges) _ _ squares (built_counted (edges_of edges) (grouped n (edges_of edges) (λ v. get_or first v 0) (arcs_of lists)) _ _ _ (omega (arith, nodes)) arcs made.1)
+-- two arcs for each edge
+pub twice : (n : ℕ) → n + n ≡ n * 2
+twice n = omega arith
 
 -- the first part of an array is as long as it says
 pub part_long : {A : Type 0} (n k : ℕ) (x : A) → k ≤ n → length (take k (replicate n x)) ≡ k

@@ -1,19 +1,24 @@
 -- What the solver leaves of the supplies of a field's squares.
-use Rattle.std.proofs.Common.{◌≡◌, ℕ, ◌+◌, ◌<◌, ◌≤◌, ℤ, nat_abs, ap, ◌∙◌, arith}
+use Rattle.std.proofs.Common.{◌≡◌, ℕ, zero, suc, ◌+◌, ◌^◌, ◌<◌, ◌≤◌, ℤ, pos, negsuc, neg_ℤ, nat_abs, refl, ap, ◌∙◌, arith}
 use borrow.Author.Differences.{up}
 use Rattle.std.proofs.lemmas.Int.{ints}
 use Rattle.sums.specs.Sum.{sum_to, sum_ℤ}
-use Rattle.sums.proofs.Sum.{sum_ext, sum_ℤ_ext}
-use Rattle.grid.specs.Field.{Field}
+use Rattle.sums.proofs.Sum.{sum_ext, sum_add, sum_ℤ_ext}
+use Rattle.grid.specs.Field.{Field, Turns}
 use Rattle.grid.specs.Promise.{Fit}
+use Rattle.laws.specs.Cost.{Least}
 use Rattle.network.specs.Graph.{Graph, Laws}
-use Rattle.network.specs.Sound.{State}
-use Rattle.flow.specs.Answer.{Solved}
+use Rattle.network.specs.Sound.{State, supply}
+use Rattle.ways.proofs.Walk.{parts}
+use Rattle.flow.specs.Answer.{Solved, Outcome}
 use Rattle.flow.specs.Start.{Balanced}
-use Rattle.std.specs.Prelude.{Result}
+use Rattle.std.specs.Prelude.{Result, Ok, Err}
 use Rattle.flow.specs.declared.stuck.Stuck.{Stuck}
 use Rattle.edges.specs.Edges.{Built}
-use Rattle.squares.specs.Squares.{places, squares_edges, supply_of}
+use Rattle.merged.specs.Crossing.{Met}
+use Rattle.squares.specs.Squares.{places, squares_edges, supply_of, turns_from}
+use Rattle.squares.proofs.Least.{settled_is_least}
+use Rattle.squares.proofs.Stuck.{never_stuck}
 use Rattle.squares.proofs.Start.{starts_empty}
 use Rattle.squares.proofs.Supply.{supplies_even, supplies_few}
 use Rattle.squares.proofs.Solved.{solved_is_least}
@@ -36,8 +41,39 @@ crossed_of f g arc e s place r fit b w nodes few given done = record {
   least = (solved_is_least f g arc e s place r fit b w nodes given done.flows done.priced done.supplies done.moved done.answer).least;
 }
   where
-    small_all : (i : ℕ) → i < places f + places f → nat_abs (s.flow (arc i)) ≤ 4096
+    small_all : (i : ℕ) → i < places f + places f → nat_abs (s.flow (arc i)) ≤ 8192
     small_all i l =
         let k = b.within i l in
         let none = starts_empty f g arc b in
         omega (arith, ints, done.moved (arc i) k, none.0, none.1 w (arc i) k, units f g.nodes e nodes given, (supplies_few f fit).0)
+
+-- what is lacked in all is as much as what is in excess
+sizes : (n : ℕ) (e : ℕ → ℤ) → sum_to n (λ v. nat_abs (e v)) ≡ sum_to n (λ v. up (e v)) + sum_to n (λ v. up (neg_ℤ (e v)))
+sizes n e = sum_ext n (λ v. nat_abs (e v)) (λ v. up (e v) + up (neg_ℤ (e v))) (λ v l. size (e v)) ∙ sum_add n (λ v. up (e v)) (λ v. up (neg_ℤ (e v)))
+  where
+    size : (z : ℤ) → nat_abs z ≡ up z + up (neg_ℤ z)
+    size (pos zero) = refl
+    size (pos (suc k)) = omega (arith, ints)
+    size (negsuc k) = omega (arith, ints)
+
+pub sizes_few : (f : Field) (n : ℕ) (e : ℕ → ℤ) → Fit f → n ≡ places f → places f ≤ 4096 → ((v : ℕ) → v < n → e v ≡ supply_of f v) → sum_to n (λ v. nat_abs (e v)) ≤ 2 ^ 16
+sizes_few f n e fit q few h = omega (arith, ints, sizes n e, parts n e, (balanced_of f n e fit q few h).even, units f n e q h, (supplies_few f fit).0)
+
+-- the same of what is settled between trees
+pub crossed_met : (f : Field) (g : Graph) (arc : ℕ → ℕ) (e : ℕ → ℤ) (s : State) (place : ℕ → ℕ) (r : Result (Unit {0}) Stuck) → Fit f → Built (squares_edges f) g arc → Laws g → g.nodes ≡ places f → places f ≤ 4096 → ((v : ℕ) → v < g.nodes → e v ≡ supply_of f v) →
+    Met g e s place r → Crossed f arc s.flow
+unfolding squares_edges
+crossed_met f g arc e s place r fit b w nodes few given done = record { small = λ i l. small (arc i) (b.within i l); least = by r done.answer }
+  where
+    small : (a : ℕ) → a < g.arcs → nat_abs (s.flow a) ≤ 8192
+    small a l = omega (arith, done.small a l, units f g.nodes e nodes given, (supplies_few f fit).0, few)
+
+    meets : (v : ℕ) → v < places f → supply g s v ≡ supply_of f v
+    meets v l = done.supplies v (omega (arith, l, nodes)) ∙ given v (omega (arith, l, nodes))
+
+    room : (a : ℕ) → a < g.arcs → nat_abs (s.flow a) < 2 ^ 60
+    room a l = omega (arith, small a l)
+
+    by : (r : Result (Unit {0}) Stuck) → Outcome g s place r → (t : Turns) → ((x y : ℕ) → x < f.wide → y < f.high → t x y ≡ turns_from f arc s.flow x y) → Least f t
+    by (Ok _) none t agree = settled_is_least f g arc s t b w done.flows done.priced room (λ v l. omega (arith, ints, none v (omega (arith, l, nodes)), meets v l)) agree
+    by (Err stuck) full t agree = absurd (never_stuck f g arc s place stuck.nodes b w done.flows nodes meets room full)

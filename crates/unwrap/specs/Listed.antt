@@ -1,5 +1,5 @@
 -- The edges of a field's squares in a list. Assumes nothing: these are definitions.
-use Rattle.std.specs.Prelude.{◌≡◌, ℕ, ◌^◌, ◌<◌, pos}
+use Rattle.std.specs.Prelude.{◌≡◌, ℕ, ◌^◌, ◌<◌, Bool, not, ◌&&◌, ◌==◌, int_le, pos}
 use Rattle.grid.specs.Field.{Field}
 use Rattle.edges.specs.Edges.{Edges}
 use Rattle.edges.specs.declared.edge.Edge.{Edge}
@@ -22,6 +22,10 @@ pub record IsEdge (es : Edges) (e : ℕ) (edge : Edge) : Type 0 where
   pub back_is : edge.back ≡ es.back e
   pub limit_is : edge.limit ≡ es.limit e
   pub back_limit_is : edge.back_limit ≡ es.back_limit e
+
+-- an edge between two nodes along which a unit costs nothing
+abbrev pub free : Edge → Bool
+free e = int_le e.cost (pos 0) && not (e.from == e.to)
 
 -- edges are those between the squares of a field, with no limit that counts
 pub record AreSquares (f : Field) (es : Edges) : Type 0 where

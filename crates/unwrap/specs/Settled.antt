@@ -3,11 +3,32 @@ use Rattle.std.specs.Prelude.{◌≡◌, ℕ, ◌+◌, ◌<◌, ◌≤◌, List,
 use Rattle.grid.specs.Field.{Field, Turns, turns_in}
 use Rattle.turns.specs.Follow.{StepsSmall}
 use Rattle.laws.specs.Cost.{Least, integral}
+use Rattle.network.specs.Graph.{Graph}
+use Rattle.edges.specs.Edges.{Built}
+use Rattle.edges.specs.Grouped.{FitEdges}
+use Rattle.edges.specs.Lists.{edges_of}
+use Rattle.forest.specs.Forest.{Forest}
+use Rattle.merged.specs.Crossing.{arc_in, root_in}
+use Rattle.merged.specs.Merged.{Merged, Unlimited}
+use Rattle.merged.specs.declared.trees.Trees.{Trees}
 use Rattle.squares.specs.Squares.{places, turns_from}
+
+-- the trees of a network: what is known of them before the edges between them are made a network
+pub record Planned (g : Graph) (t : Trees) : Type 0 where
+  pub forest : Forest g t.branches.now t.order.now
+  pub merged : Merged g.nodes (root_in t) (edges_of t.edges.now) (edges_of t.merged.now)
+  pub built : Built (edges_of t.edges.now) g (arc_in t)
+  pub fit : FitEdges (edges_of t.edges.now) g.nodes
+  pub unlimited : Unlimited g
+  pub few_nodes : g.nodes ≤ 4096
+  pub few_edges : length t.edges.now ≤ 8192
+  pub branches_len : length t.branches.now ≡ g.nodes
+  pub order_len : length t.order.now ≡ g.nodes
+  pub arcs_len : length t.arc_of.now ≡ length t.edges.now
 
 -- small flows across steps, whose turns cost least
 pub record Crossed (f : Field) (arc : ℕ → ℕ) (flow : ℕ → ℤ) : Type 0 where
-  pub small : (e : ℕ) → e < places f + places f → unsigned_abs (flow (arc e)) ≤ 4096
+  pub small : (e : ℕ) → e < places f + places f → unsigned_abs (flow (arc e)) ≤ 8192
   pub least : (t : Turns) → ((x y : ℕ) → x < f.wide → y < f.high → t x y ≡ turns_from f arc flow x y) → Least f t
 
 -- to each step is added what goes across it, along the arc of its number
@@ -19,7 +40,7 @@ pub record Added (arcs : List ℕ) (flow before after : List ℤ) : Type 0 where
 pub record Addable (arcs : List ℕ) (flow steps : List ℤ) : Type 0 where
   pub long : length arcs ≤ length steps
   pub within : (p : ℕ) → p < length arcs → slice_index arcs p < length flow
-  pub small : (p : ℕ) → p < length arcs → unsigned_abs (slice_index_or flow (slice_index arcs p) (pos 0)) ≤ 4096
+  pub small : (p : ℕ) → p < length arcs → unsigned_abs (slice_index_or flow (slice_index arcs p) (pos 0)) ≤ 8192
   pub expected : (p : ℕ) → unsigned_abs (slice_index_or steps p (pos 0)) ≤ 1
 
 -- steps that can be followed, and whose turns cost least

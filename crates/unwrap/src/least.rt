@@ -5,29 +5,31 @@ ghost use Rattle.network.specs.Network.{graph};
 ghost use Rattle.edges.specs.Edges.{Built};
 ghost use Rattle.edges.specs.Lists.{edges_of};
 ghost use Rattle.unwrap.specs.Listed.{AreSquares};
-ghost use Rattle.squares.specs.Squares.{places, squares_edges};
+ghost use Rattle.squares.specs.Squares.{places};
 ghost use Rattle.turns.specs.Follow.{Expected};
 ghost use Rattle.unwrap.specs.Settled.{LeastSteps};
 
 use crate::cross::add_flows;
-use crate::list::list_edges;
-use crate::settle::settle_squares;
+use crate::list::{ARCS, EDGES, list_edges};
+use crate::settle::settle;
 use edges::{ArcLists, Edge, EdgeList, group};
 use grid::field::{Field, PLACES};
 use network::{Arc, Flow, Network, Node};
 use turns::follow::Steps;
 use ways::{Mark, Search};
 
-// Two edges for each place, across the step to the right and the one down, and two arcs for each edge.
-const EDGES: usize = 2 * PLACES;
-
-const ARCS: usize = 2 * EDGES;
-
 // Adds to the steps that are expected of a field what goes across them in a settled flow.
-fn cross_squares(field: &Field, net: Network<'_>, arc_of: &[usize], steps: &mut Steps)
+fn cross_squares(
+    field: &Field,
+    edges: &[Edge],
+    net: Network<'_>,
+    arc_of: &[usize],
+    steps: &mut Steps,
+)
+    requires squares { AreSquares (field_of field.now) (edges_of edges.now) }
     requires nodes { (graph net).nodes ≡ places (field_of field.now) }
     requires arcs { (graph net).arcs ≤ 16384 }
-    requires built { Built (squares_edges (field_of field.now)) (graph net) (λ e. slice_index arc_of.now e) }
+    requires built { Built (edges_of edges.now) (graph net) (λ e. slice_index arc_of.now e) }
     requires edges { length arc_of.now ≡ places (field_of field.now) + places (field_of field.now) }
     requires expected { Expected (field_of field.now) steps.old.right steps.old.below }
     ensures { LeastSteps (field_of field.now) steps.new.right steps.new.below }
@@ -44,7 +46,7 @@ fn cross_squares(field: &Field, net: Network<'_>, arc_of: &[usize], steps: &mut 
         nodes: &mut nodes[..n],
     };
     let mut search = Search::new(&mut marks[..n], &mut order[..n], &mut frontier[..n]);
-    settle_squares(field, arc_of, &mut flow, &mut search);
+    settle(field, edges, arc_of, &mut flow, &mut search);
     let Flow { flow, .. } = flow;
     let (right, below) = arc_of.split_at(n);
     add_flows(right, flow, &mut steps.right);
@@ -75,7 +77,7 @@ fn settle_edges(field: &Field, edges: &[Edge], steps: &mut Steps)
         &mut lists,
     );
     let ArcLists { arcs, arc_of } = lists;
-    cross_squares(field, Network { first, arcs }, arc_of, steps);
+    cross_squares(field, edges, Network { first, arcs }, arc_of, steps);
 }
 
 // Lists the edges between the squares of a field, and adds what goes across the steps to those that are expected.
@@ -94,7 +96,7 @@ pub fn least_steps(field: &Field) -> Steps
     ensures { LeastSteps (field_of field.now) result.right result.below }
 {
     let mut steps = Steps::expected(field);
-    if field.squares_off() > 0 {
+    if !field.comes_back() {
         settle_field(field, &mut steps);
     }
     steps

@@ -12,6 +12,7 @@ mod least;
 mod list;
 mod settle;
 mod supply;
+mod trees;
 
 use crate::least::least_steps;
 use grid::field::Field;

@@ -6,7 +6,12 @@ ghost use Rattle.squares.specs.Squares.{node, places, squares_edges};
 ghost use Rattle.unwrap.specs.Listed.{AreSquares, Crosses, IsEdge};
 
 use edges::Edge;
-use grid::field::Field;
+use grid::field::{Field, PLACES};
+
+// Two edges for each place, across the step to the right and the one down, and two arcs for each edge.
+pub const EDGES: usize = 2 * PLACES;
+
+pub const ARCS: usize = 2 * EDGES;
 
 // More than can ever go along an edge.
 const NO_LIMIT: i64 = 1 << 60;

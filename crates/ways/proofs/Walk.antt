@@ -7,9 +7,9 @@ use Rattle.sums.specs.Sum.{sum_ℤ, sum_to}
 use Rattle.sums.proofs.Sum.{sum_change, member_le_sum, sum_ℤ_ext, sum_ℤ_add, sum_ℤ_neg}
 use Rattle.sums.proofs.Points.{point_sum}
 use Rattle.network.specs.Graph.{Graph, at, Laws, room, reduced_cost, IsFlow}
-use Rattle.network.specs.Sound.{State, Sound, supply, left, Later, Pushed}
+use Rattle.network.specs.Sound.{State, Sound, supply, left, leaving, coming, Later, Pushed}
 use Rattle.network.proofs.Points.{cases_lt_ℤ, at_same, at_other, unit_same, room_same}
-use Rattle.network.proofs.Push.{pushed_flow, pushed_priced, pushed_other, pushed_here, pushed_back, pushed_outflow, by_arc}
+use Rattle.network.proofs.Push.{pushed_flow, pushed_priced, pushed_other, pushed_here, pushed_back, pushed_outflow, pushed_leaving, pushed_coming, by_arc}
 use Rattle.ways.specs.Tree.{Tree}
 use Rattle.ways.specs.Way.{Step, Found, Chain, here, back, Walking}
 
@@ -67,6 +67,10 @@ module _ (g : Graph) (w : Laws g) (s : State) (o : Sound g s) (t : Tree) (f : Fo
         priced = o.priced;
         untouched = λ b h p q. refl;
         moved = λ b h. omega arith;
+        leaves = λ u. omega (arith, ints, more);
+        leaves_before = λ u h. omega (arith, ints);
+        comes = λ u. omega (arith, ints, more);
+        comes_before = λ u h. omega (arith, ints);
         excess = λ v. omega (arith, ints);
         supplies = λ v. refl;
       }
@@ -107,6 +111,30 @@ module _ (g : Graph) (w : Laws g) (s : State) (o : Sound g s) (t : Tree) (f : Fo
     supplies' : (u : ℕ) → supply g s'' u ≡ supply g s u
     supplies' u = omega (arith, ints, p.excess u, k.supplies u, pushed_outflow g w s'.flow s''.flow (t.via v) S.arc d p.flow u)
 
+    leaves' : (u : ℕ) → leaving g s''.flow u ≤ℤ (leaving g s'.flow u +ℤ at (g.tail (t.via v)) d u)
+    leaves' = pushed_leaving g w s'.flow s''.flow (t.via v) S.arc d p.flow (omega (arith, ints, more))
+
+    comes' : (u : ℕ) → coming g s''.flow u ≤ℤ (coming g s'.flow u +ℤ at v d u)
+    comes' u = rw S.ends at (pushed_coming g w s'.flow s''.flow (t.via v) S.arc d p.flow (omega (arith, ints, more)) u)
+
+    leaves_all : (u : ℕ) → leaving g s''.flow u ≤ℤ (leaving g s.flow u +ℤ d)
+    leaves_all u = elim (cases_eq u (g.tail (t.via v))) [
+      | inl e ↦ omega (arith, ints, leaves' u, at_same (g.tail (t.via v)) u d e, k.leaves_before u (omega (arith, ap t.place e, S.earlier)))
+      | inr n ↦ omega (arith, ints, leaves' u, at_other (g.tail (t.via v)) u d n, k.leaves u)
+    ]
+
+    comes_all : (u : ℕ) → coming g s''.flow u ≤ℤ (coming g s.flow u +ℤ d)
+    comes_all u = elim (cases_eq u v) [
+      | inl e ↦ omega (arith, ints, comes' u, at_same v u d e, k.comes_before u (omega (arith, ap t.place e)))
+      | inr n ↦ omega (arith, ints, comes' u, at_other v u d n, k.comes u)
+    ]
+
+    leaves_early : (u : ℕ) → t.place u < t.place (g.tail (t.via v)) → leaving g s''.flow u ≤ℤ leaving g s.flow u
+    leaves_early u h = omega (arith, ints, leaves' u, at_other (g.tail (t.via v)) u d (λ e. omega (arith, h, ap t.place e)), k.leaves_before u (omega (arith, h, S.earlier)))
+
+    comes_early : (u : ℕ) → t.place u ≤ t.place (g.tail (t.via v)) → coming g s''.flow u ≤ℤ coming g s.flow u
+    comes_early u h = omega (arith, ints, comes' u, at_other v u d (λ e. omega (arith, h, S.earlier, ap t.place e)), k.comes_before u (omega (arith, h, S.earlier)))
+
     pub walk_on : Walking g s s'' t (g.tail (t.via v)) d
     walk_on =
         record {
@@ -117,6 +145,10 @@ module _ (g : Graph) (w : Laws g) (s : State) (o : Sound g s) (t : Tree) (f : Fo
           priced = pushed_priced g w s'.flow s''.flow (t.via v) S.arc d p.flow k.flows (omega (arith, ints, more)) fits s.potential more k.priced tight;
           untouched = untouched';
           moved = moved';
+          leaves = leaves_all;
+          leaves_before = leaves_early;
+          comes = comes_all;
+          comes_before = comes_early;
           excess = excess';
           supplies = supplies';
         }
@@ -173,7 +205,13 @@ module _ (g : Graph) (w : Laws g) (s : State) (o : Sound g s) (t : Tree) (f : Fo
         }
 
     pub walked_later : Later g s s'
-    walked_later = record { supplies = λ v h. k.supplies v; moved = λ a h. omega (arith, ints, k.moved a h, fewer, more) }
+    walked_later =
+        record {
+          supplies = λ v h. k.supplies v;
+          moved = λ a h. omega (arith, ints, k.moved a h, fewer, more);
+          leaves = λ v. omega (arith, ints, k.leaves v, fewer);
+          comes = λ v. omega (arith, ints, k.comes v, fewer);
+        }
 
     -- a node with nothing in excess gets nothing
     pub walked_quiet : (v : ℕ) → v < g.nodes → s.excess v ≤ℤ pos 0 → s'.excess v ≤ℤ pos 0

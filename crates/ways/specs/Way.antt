@@ -1,7 +1,7 @@
 -- What a search that is over leaves: potentials under which the way found costs nothing more, that way, or a set that nothing leaves.
 use Rattle.std.specs.Prelude.{◌≡◌, ℕ, ◌+◌, ◌<◌, ◌≤◌, ◌⊎◌, ℤ, pos, ◌+ℤ◌, ◌-ℤ◌, ◌≤ℤ◌, ◌<ℤ◌, ◌≢◌, unsigned_abs}
 use Rattle.network.specs.Graph.{Graph, at, reduced_cost, IsFlow, Priced}
-use Rattle.network.specs.Sound.{State, supply}
+use Rattle.network.specs.Sound.{State, supply, leaving, coming}
 use Rattle.ways.specs.Tree.{Tree}
 
 -- the potentials of the reached nodes are lower, by what they are nearer than the nearest lacking node
@@ -43,6 +43,10 @@ pub record Walking (g : Graph) (s s' : State) (t : Tree) (v : ℕ) (d : ℤ) : T
   pub priced : Priced g s'.flow s.potential
   pub untouched : (b : ℕ) → b < g.arcs → t.place (g.tail b) ≤ t.place v → t.place (g.head b) ≤ t.place v → s'.flow b ≡ s.flow b
   pub moved : (b : ℕ) → b < g.arcs → unsigned_abs (s'.flow b) ≤ unsigned_abs (s.flow b) + unsigned_abs d
+  pub leaves : (u : ℕ) → leaving g s'.flow u ≤ℤ (leaving g s.flow u +ℤ d)
+  pub leaves_before : (u : ℕ) → t.place u < t.place v → leaving g s'.flow u ≤ℤ leaving g s.flow u
+  pub comes : (u : ℕ) → coming g s'.flow u ≤ℤ (coming g s.flow u +ℤ d)
+  pub comes_before : (u : ℕ) → t.place u ≤ t.place v → coming g s'.flow u ≤ℤ coming g s.flow u
   pub excess : (w : ℕ) → s'.excess w ≡ ((s.excess w +ℤ at t.target d w) -ℤ at v d w)
   pub supplies : (w : ℕ) → supply g s' w ≡ supply g s w
 

@@ -165,6 +165,26 @@ mod tests {
         );
     }
 
+    // Free steps make the first square one with the outside. What the second is off by goes out at the cheapest of its steps, and
+    // on to the first for nothing.
+    #[test]
+    fn free_steps_join_squares(rt: HostRuntime) {
+        let mut room = [9; 6];
+        assert_eq!(rt;
+            put_back(
+                3,
+                2,
+                10,
+                &[6, 9, 0, 7, 3, 6],
+                &[0, 3, 1, 0, 6, 1],
+                &[5, 4, 6, 1, 1, 1],
+                &mut room,
+            ),
+            Done::Back(30)
+        );
+        assert!(rt; room[0] == 0);
+    }
+
     // A column alone goes past a turn.
     #[test]
     fn columns_count(rt: HostRuntime) {

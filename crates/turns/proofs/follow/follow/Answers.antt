@@ -23,7 +23,7 @@ pub follow_row-requires : goal.follow_row-requires
 follow_row-requires c =
     let n : length c.loop-y.room ≡ c.args.wide * c.args.high = omega (arith, c.loop-y.auto.room, c.requires.room_len) in
     let e = row_ends c.args.wide c.args.high c.loop-y.y c.loop-y-test.true in
-    let part = (row_is c.args.wide c.loop-y.y c.loop-y.room (omega arith)).long in record { start_bound = omega (arith, c.loop-y.invariant.small, c.requires.high_bound); steps_len = c.row_of.ensures.long ∙ sym part; row_len_bound = omega (arith, part, c.requires.wide_bound); steps_small = row_steps_small c.args.wide c.loop-y.y c.args.steps.now.right c.row_of.result.now c.row_of.ensures c.requires.right_small }
+    let part = (row_is c.args.wide c.loop-y.y c.loop-y.room (omega arith)).long in record { start_bound = omega (arith, c.loop-y.invariant.small, c.requires.high_bound, c.loop-y-test.true); steps_len = c.row_of.ensures.long ∙ sym part; row_len_bound = omega (arith, part, c.requires.wide_bound); steps_small = row_steps_small c.args.wide c.loop-y.y c.args.steps.now.right c.row_of.result.now c.row_of.ensures c.requires.right_small }
 
 pub bounds-steps-from : goal.bounds-steps-from
 bounds-steps-from c = omega (arith, mul-le c.loop-y.y c.args.wide 63 64 (omega (arith, c.requires.high_bound)) c.requires.wide_bound)

@@ -4,11 +4,10 @@ use Rattle.edges.specs.Lists.{edges_of}
 use Rattle.edges.specs.Slots.{Between}
 use Rattle.grid.specs.Model.{field_of}
 use Rattle.unwrap.proofs.Fitting.{few_places}
-use Rattle.unwrap.proofs.Building.{fit_of, count_of, count_few, made_formed, made_built, part_long}
+use Rattle.edges.specs.Grouped.{FitEdges}
+use Rattle.edges.proofs.Listing.{made_formed, made_built}
+use Rattle.unwrap.proofs.Building.{fit_of, count_of, count_few, part_long, twice}
 use Rattle.unwrap.proofs.least.settle_edges.Goals as goal
-
-twice : (n : ℕ) → n + n ≡ n * 2
-twice n = omega arith
 
 pub overflow_add-ends : goal.overflow_add-ends
 overflow_add-ends c = omega (arith, count_few c.args.field.now c.args.edges.now c.requires.squares)
@@ -59,19 +58,23 @@ invariant_of-group c =
 pub invariant_of-cross_squares : goal.invariant_of-cross_squares
 invariant_of-cross_squares c =
     let f = c.args.field.now in
+    let e = c.args.edges.now in
     let few = few_places f in
     let is = c.places-n.ensures in
     let nodes : length c.group.new.first ≡ c.places-n.result + 1 = search rules in
-    let count = count_few f c.args.edges.now c.requires.squares in
-    let arcs = c.group.new.arcs.room ∙ ap (λ (k : ℕ). k * 2) (c.group.ensures.len ∙ part_long {A = ℕ} 8192 (length c.args.edges.now) 0 count) in
-    record { formed = made_formed f c.args.edges.now c.places-n.result c.group.new.first c.group.new.arcs c.places-n.ensures c.requires.squares nodes arcs c.group.ensures.first c.group.ensures.placed }
+    let count = count_few f e c.requires.squares in
+    let fit = subst (FitEdges (edges_of e)) (sym is) (fit_of f (edges_of e) c.requires.squares) in
+    let arcs = c.group.new.arcs.room ∙ ap (λ (k : ℕ). k * 2) (c.group.ensures.len ∙ part_long {A = ℕ} 8192 (length e) 0 count) in
+    record { formed = made_formed e c.places-n.result c.group.new.first c.group.new.arcs fit nodes arcs c.group.ensures.first c.group.ensures.placed }
 
 pub cross_squares-requires-clause-built : goal.cross_squares-requires-clause-built
 cross_squares-requires-clause-built c =
     let f = c.args.field.now in
+    let e = c.args.edges.now in
     let few = few_places f in
     let is = c.places-n.ensures in
     let nodes : length c.group.new.first ≡ c.places-n.result + 1 = search rules in
-    let count = count_few f c.args.edges.now c.requires.squares in
-    let arcs = c.group.new.arcs.room ∙ ap (λ (k : ℕ). k * 2) (c.group.ensures.len ∙ part_long {A = ℕ} 8192 (length c.args.edges.now) 0 count) in
-    made_built f c.args.edges.now c.places-n.result c.group.new.first c.group.new.arcs c.places-n.ensures c.requires.squares nodes arcs c.group.ensures.first c.group.ensures.placed
+    let count = count_few f e c.requires.squares in
+    let fit = subst (FitEdges (edges_of e)) (sym is) (fit_of f (edges_of e) c.requires.squares) in
+    let arcs = c.group.new.arcs.room ∙ ap (λ (k : ℕ). k * 2) (c.group.ensures.len ∙ part_long {A = ℕ} 8192 (length e) 0 count) in
+    made_built e c.places-n.result c.group.new.first c.group.new.arcs fit nodes arcs c.group.ensures.first c.group.ensures.placed

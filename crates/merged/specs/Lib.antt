@@ -1,0 +1,2 @@
+pub mod Crossing
+pub mod Merged

@@ -1,0 +1,46 @@
+// From the network between trees to the whole one.
+ghost use Rattle.std.specs.Prelude.{◌≡◌, ℕ, ◌^◌, ◌<◌, ◌≤◌, length, pos, unsigned_abs};
+ghost use Rattle.sums.specs.Sum.{sum_to, sum_ℤ};
+ghost use Rattle.network.specs.Network.{graph};
+ghost use Rattle.network.specs.Node.{excess_of, potential_of};
+ghost use Rattle.network.specs.Sound.{state};
+ghost use Rattle.flow.specs.Same.{SameFlow};
+ghost use Rattle.forest.specs.Forest.{root_of};
+ghost use Rattle.merged.specs.Crossing.{root_in, Belongs, Settled, Expanded};
+ghost use Rattle.merged.specs.Merged.{Unlimited};
+
+use crate::collect::collect;
+use crate::cross::cross;
+use crate::trees::Trees;
+use forest::Branch;
+use network::{Flow, Node};
+
+// Gives each node the potential of its root.
+fn level(roots: &[Node], branches: &[Branch], nodes: &mut [Node])
+    requires branches { length branches.now ≡ length nodes.old }
+    requires roots { (v : ℕ) → v < length nodes.old → root_of branches.now v < length roots.now }
+    ensures potential { (v : ℕ) → v < length nodes.new → potential_of nodes.new v ≡ potential_of roots.now (root_of branches.now v) }
+    ensures excess { (v : ℕ) → excess_of nodes.new v ≡ excess_of nodes.old v }
+{
+    for (v, node) in nodes.iter_mut().enumerate() {
+        node.potential = roots[branches[v].root].potential;
+    }
+}
+
+// A flow that meets what the nodes have in excess, from one among their trees, which costs as much: along the edges between trees as
+// much as there, and within trees what is left, where it costs nothing.
+pub(crate) fn expand(trees: Trees<'_>, merged_arc_of: &[usize], merged: &Flow, flow: &mut Flow)
+    requires belongs { Belongs (graph flow.old.net) (graph merged.now.net) trees merged_arc_of.now }
+    requires unlimited { Unlimited (graph flow.old.net) }
+    requires nodes { (graph flow.old.net).nodes ≤ 2 ^ 16 }
+    requires edges { length trees.edges.now ≤ 2 ^ 16 }
+    requires even { sum_ℤ (graph flow.old.net).nodes (state flow.old).excess ≡ pos 0 }
+    requires few { sum_to (graph flow.old.net).nodes (λ v. unsigned_abs ((state flow.old).excess v)) ≤ 2 ^ 16 }
+    requires settled { Settled (graph merged.now.net) (graph flow.old.net).nodes (root_in trees) (state flow.old).excess (state merged.now) }
+    ensures same { SameFlow flow.old flow.new }
+    ensures expanded { Expanded (graph flow.old.net) (graph merged.now.net) (root_in trees.entry) (state flow.old).excess (state merged.now) (state flow.new) }
+{
+    cross(trees, merged_arc_of, merged, flow);
+    collect(trees.branches, trees.order, flow);
+    level(merged.nodes, trees.branches, flow.nodes);
+}
