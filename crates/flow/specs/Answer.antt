@@ -37,8 +37,9 @@ abbrev pub Outcome : Graph → State → (ℕ → ℕ) → Result (Unit {0}) Stu
 Outcome g s place (Ok _) = (v : ℕ) → v < g.nodes → s.excess v ≡ pos 0
 Outcome g s place (Err stuck) = Overfull g s place stuck.nodes
 
--- What the solver promises of supplies e: a flow with potentials, of which |potential| is at most 2 n C. By no more than all supplies and all that arcs gain does an
--- arc's flow differ from the first one, and does more go through a node than at first. And the flow meets the supplies, or a set shows that none does.
+-- What the solver promises of supplies e: a flow with potentials, of which |potential| is at most 2 n C. An arc's flow is larger than the first one, either way, and what
+-- leaves a node or comes to it is more than at first, by no more than all supplies and all that arcs gain, less what is left. And the flow meets the supplies, or a set
+-- shows that none does.
 pub record Solved (g : Graph) (e : ℕ → ℤ) (s : State) (place : ℕ → ℕ) (r : Result (Unit {0}) Stuck) : Type 0 where
   pub flows : IsFlow g s.flow
   pub priced : Priced g s.flow s.potential

@@ -53,7 +53,7 @@ abbrev pub unfound : ℕ → ℕ → ℕ
 unfound n place = if nat_lt place n then 0 else 1
 
 -- so many nodes are found, each at its place, and each of them is a root or hangs on another; the place of any other node is the number of
--- all nodes. The last says that there is room for one more.
+-- all nodes. Those found and those not found are all nodes, so there is room for each that is not found.
 pub record Growing (g : Graph) (root via place order : ℕ → ℕ) (found : ℕ) : Type 0 where
   pub ordered : (k : ℕ) → k < found → order k < g.nodes
   pub back : (k : ℕ) → k < found → place (order k) ≡ k

@@ -17,7 +17,7 @@ fn add(branches: &mut [Branch], order: &mut [usize], found: &mut usize, v: usize
     *found += 1;
 }
 
-// Finds the node that arc `a` leads to, if it was not found and a unit along the arc costs nothing, nor one back.
+// Finds the node that arc `a` leads to, unless it was found, or a unit along the arc or back costs something.
 fn reach(
     net: Network<'_>,
     branches: &mut [Branch],
@@ -107,7 +107,7 @@ fn grow_tree(
     }
 }
 
-/// Finds the trees of arcs that cost nothing, either way: of all nodes, each as large as it can be.
+/// Finds the trees that arcs which cost nothing either way make of all nodes, each tree as large as it can be.
 pub fn grow(net: Network<'_>, branches: &mut [Branch], order: &mut [usize])
     requires branches { length branches.old ≡ (graph net).nodes }
     requires order { length order.old ≡ (graph net).nodes }

@@ -40,7 +40,7 @@ counted Less = 1
 counted Back = 0
 counted More = 1
 
--- how many squares of a row are off
+-- how many squares are off between row y and the one below it
 unfoldable pub off_below : Field → ℕ → ℕ
 off_below f y = sum_to (pred f.wide) (λ x. is_off (round f x y))
 

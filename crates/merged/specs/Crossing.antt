@@ -12,7 +12,7 @@ use Rattle.forest.specs.Forest.{root_of, Forest}
 use Rattle.merged.specs.Merged.{Merged, gathered}
 use Rattle.merged.specs.declared.trees.Trees.{Trees}
 
--- the first n edges between trees have what goes along them among the trees, and all other edges have nothing
+-- of the first n edges those between two trees have what goes along them among the trees; all other edges have nothing
 pub record Crossing (from to : ℕ → ℕ) (arc arc' : ℕ → ℕ) (x' : ℕ → ℤ) (count n : ℕ) (x : ℕ → ℤ) : Type 0 where
   pub across : (e : ℕ) → e < count → e < n → (from e ≢ to e) → x (arc e) ≡ x' (arc' e)
   pub within : (e : ℕ) → e < count → from e ≡ to e → x (arc e) ≡ pos 0
@@ -25,8 +25,8 @@ more_in n root e w = gathered n root (λ v. pos (up (e v))) w
 abbrev pub less_in : ℕ → (ℕ → ℕ) → (ℕ → ℤ) → ℕ → ℤ
 less_in n root e w = gathered n root (λ v. pos (up (neg_ℤ (e v)))) w
 
--- From state s₁ on of the nodes at the places from k on only roots have anything in excess, and what came there came along arcs of trees that
--- cost nothing, along none of them more than a tree had in excess or lacked.
+-- Since state s₁ the nodes at the places from k on have handed on what they had: of these only roots have anything in excess, or lack it. What
+-- has gone went within trees, for nothing, and along no arc more than any bound of what a tree has in excess and of what one lacks.
 pub record Collecting (g : Graph) (root via place : ℕ → ℕ) (s₁ : State) (k : ℕ) (s : State) : Type 0 where
   pub across : (a : ℕ) → a < g.arcs → (root (g.tail a) ≢ root (g.head a)) → s.flow a ≡ s₁.flow a
   pub within : (a : ℕ) → a < g.arcs → root (g.tail a) ≡ root (g.head a) → (s.flow a ≡ pos 0) ⊎ ((g.cost a ≡ pos 0) × (g.cost (g.pair a) ≡ pos 0))
@@ -37,13 +37,14 @@ pub record Collecting (g : Graph) (root via place : ℕ → ℕ) (s₁ : State) 
   pub narrow : (most : ℕ) → ((w : ℕ) → more_in g.nodes root s₁.excess w ≤ℤ pos most) → ((w : ℕ) → less_in g.nodes root s₁.excess w ≤ℤ pos most) →
       (a : ℕ) → a < g.arcs → root (g.tail a) ≡ root (g.head a) → unsigned_abs (s.flow a) ≤ most
 
--- the arcs of each edge, by its number
+-- the arc of each edge, by its number: in a network, and in the one between its trees
 abbrev pub arc_in : Trees → ℕ → ℕ
 arc_in t e = slice_index t.arc_of.now e
 
 abbrev pub merged_arc_in : List ℕ → ℕ → ℕ
 merged_arc_in arcs e = slice_index arcs e
 
+-- the root of each node's tree
 abbrev pub root_in : Trees → ℕ → ℕ
 root_in t = root_of t.branches.now
 
@@ -64,8 +65,8 @@ pub record Settled (g' : Graph) (n : ℕ) (root : ℕ → ℕ) (e : ℕ → ℤ)
   pub flows : IsFlow g' s'.flow
   pub priced : Priced g' s'.flow s'.potential
   pub small : (a : ℕ) → a < g'.arcs → unsigned_abs (s'.flow a) ≤ sum_to n (λ v. up (e v))
-  pub leaves : (t : ℕ) → leaving g' s'.flow t ≤ℤ pos (sum_to n (λ v. up (e v)))
-  pub comes : (t : ℕ) → coming g' s'.flow t ≤ℤ pos (sum_to n (λ v. up (e v)))
+  pub leaves : (w : ℕ) → leaving g' s'.flow w ≤ℤ pos (sum_to n (λ v. up (e v)))
+  pub comes : (w : ℕ) → coming g' s'.flow w ≤ℤ pos (sum_to n (λ v. up (e v)))
   pub supplies : (v : ℕ) → v < n → supply g' s' v ≡ gathered n root e v
 
 -- the same of the nodes' supplies; and the outcome is that of the trees

@@ -17,7 +17,7 @@ pub record MergedEdge (root : ℕ → ℕ) (edge merged : Edge) : Type 0 where
   pub limit : merged.limit ≡ edge.limit
   pub back_limit : merged.back_limit ≡ edge.back_limit
 
--- the edges of a list, by their number
+-- the edges of a list, by their number; where loops are is left out, since it changes only how long a search takes
 pub record Merged (nodes : ℕ) (root : ℕ → ℕ) (es es' : Edges) : Type 0 where
   pub count : es'.count ≡ es.count
   pub from : (e : ℕ) → e < es.count → es'.from e < nodes
@@ -34,7 +34,8 @@ pub record Merged (nodes : ℕ) (root : ℕ → ℕ) (es es' : Edges) : Type 0 w
 unfoldable pub gathered : ℕ → (ℕ → ℕ) → (ℕ → ℤ) → ℕ → ℤ
 gathered n root e w = sum_ℤ n (λ v. at (root v) (e v) w)
 
--- a flow from which the nodes of a network have supplies e; no arc has more than `most`, and no more than `total` is in excess or lacks
+-- a flow from which the nodes of a network have supplies e; no arc has more than `most`, and what is in excess and what is lacking come to no more
+-- than `total`
 pub record Carried (g : Graph) (e : ℕ → ℤ) (most total : ℕ) (s : State) : Type 0 where
   pub opposite : (a : ℕ) → a < g.arcs → s.flow (g.pair a) ≡ neg_ℤ (s.flow a)
   pub small : (a : ℕ) → a < g.arcs → unsigned_abs (s.flow a) ≤ most

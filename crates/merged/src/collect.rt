@@ -13,8 +13,8 @@ use network::Flow;
 // Sends what node `v` has in excess, or lacks, on to the node that it hangs on, unless it is a root.
 fn hand_on(branches: &[Branch], v: usize, flow: &mut Flow)
     requires node { v < length branches.now }
+    requires branches { length branches.now ≡ (graph flow.old.net).nodes }
     requires arc { (root_of branches.now v ≢ v) → via_of branches.now v < (graph flow.old.net).arcs }
-    requires nodes { length branches.now ≡ (graph flow.old.net).nodes }
     requires flow { (a : ℕ) → a < (graph flow.old.net).arcs → unsigned_abs ((state flow.old).flow a) ≤ 2 ^ 60 }
     requires excess { (u : ℕ) → u < (graph flow.old.net).nodes → unsigned_abs ((state flow.old).excess u) ≤ 2 ^ 61 }
     ensures same { SameFlow flow.old flow.new }
@@ -43,7 +43,7 @@ pub(crate) fn collect(branches: &[Branch], order: &[usize], flow: &mut Flow)
     ensures carried { Carried (graph flow.old.net) (supply (graph flow.old.net) (state flow.old)) (2 ^ 52) (2 ^ 34) (state flow.new) }
     ensures collected { Collecting (graph flow.old.net) (root_of branches.now) (via_of branches.now) (place_of branches.now) (state flow.old) 0 (state flow.new) }
 {
-    // By place, which the forest speaks of.
+    // Places by number and no `order.iter().rev()`: the forest speaks of them. Each of 2 ^ 16 nodes hands on no more than 2 ^ 34.
     for k in (0..order.len()).rev() {
         hand_on(branches, order[k], flow);
     }

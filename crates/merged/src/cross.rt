@@ -20,7 +20,8 @@ fn clear(flow: &mut Flow)
     flow.flow.fill(0);
 }
 
-// Sends along each edge between two trees what goes along it among the trees, and nothing along the others.
+// Sends along each edge between two trees what goes along it among the trees, and nothing along the others. 2 ^ 16 edges of 2 ^ 16 units each
+// put no more than 2 ^ 32 along an arc, and no more than 2 ^ 34 in all are in excess or lacking then.
 pub(crate) fn cross(trees: Trees<'_>, merged_arc_of: &[usize], merged: &Flow, flow: &mut Flow)
     requires belongs { Belongs (graph flow.old.net) (graph merged.now.net) trees merged_arc_of.now }
     requires edges { length trees.edges.now ≤ 2 ^ 16 }

@@ -27,8 +27,8 @@ fn level(roots: &[Node], branches: &[Branch], nodes: &mut [Node])
     }
 }
 
-// A flow that meets what the nodes have in excess, from one among their trees, which costs as much: along the edges between trees as
-// much as there, and within trees what is left, where it costs nothing.
+// Makes of a flow among trees one among their nodes, with the same outcome: along the edges between trees as much as there, and within
+// trees what is left, where it costs nothing.
 pub(crate) fn expand(trees: Trees<'_>, merged_arc_of: &[usize], merged: &Flow, flow: &mut Flow)
     requires belongs { Belongs (graph flow.old.net) (graph merged.now.net) trees merged_arc_of.now }
     requires unlimited { Unlimited (graph flow.old.net) }

@@ -1,5 +1,5 @@
 // What merged nodes supply.
-ghost use Rattle.std.specs.Prelude.{◌≡◌, ℕ, ◌^◌, ◌<◌, ◌≤◌, length, pos, unsigned_abs};
+ghost use Rattle.std.specs.Prelude.{◌≡◌, ℕ, ◌^◌, ◌<◌, ◌≤◌, length, unsigned_abs};
 ghost use Rattle.sums.specs.Sum.{sum_to};
 ghost use Rattle.network.specs.Network.{graph};
 ghost use Rattle.network.specs.Node.{excess_of};

@@ -7,7 +7,8 @@ ghost use Rattle.merged.specs.Merged.{Merged, MergedEdge};
 use edges::{Edge, EdgeList};
 use forest::Branch;
 
-// An edge between the roots of its ends, or a loop where they have one root: at an end that is no root, if it can be, which no other edge leads to.
+// An edge between the roots of its ends, or a loop where they have one root: at an end that is no root, if there is one, since there only
+// loops are.
 fn merged_edge(edge: Edge, branches: &[Branch]) -> Edge
     requires from { edge.from < length branches.now }
     requires to { edge.to < length branches.now }
@@ -37,6 +38,7 @@ pub fn merge(list: EdgeList<'_>, branches: &[Branch], merged: &mut [Edge])
     requires roots { (v : ℕ) → v < list.nodes → root_of branches.now v < list.nodes }
     ensures { Merged list.entry.nodes (root_of branches.now) (edges_of list.entry.edges.now) (edges_of merged.new) }
 {
+    // Edges by number: of what a loop over `merged.iter_mut().zip(list.edges)` has written nothing is known.
     for (e, edge) in list.edges.iter().enumerate() {
         merged[e] = merged_edge(*edge, branches);
     }

@@ -1,5 +1,5 @@
 // The solver for networks in which much costs nothing.
-ghost use Rattle.std.specs.Prelude.{◌≡◌, ℕ, ◌^◌, ◌<◌, ◌≤◌, length, pos, unsigned_abs};
+ghost use Rattle.std.specs.Prelude.{◌≡◌, ◌^◌, ◌≤◌, length, pos, unsigned_abs};
 ghost use Rattle.sums.specs.Sum.{sum_to, sum_ℤ};
 ghost use Rattle.network.specs.Network.{graph};
 ghost use Rattle.network.specs.Sound.{state};
@@ -17,8 +17,8 @@ use network::Flow;
 use ways::Search;
 
 /// A cheapest flow that meets the supplies, which the nodes have in excess, or nodes with more than can leave them, as `flow::solve` has it,
-/// but found in a smaller network: between the roots of trees, since what goes within a tree costs nothing. What the flows were before does
-/// not matter.
+/// but found between the roots of trees, since what goes within a tree costs nothing: all other nodes of `merged` have only loops. What flow
+/// and potentials were before, and what the nodes of `merged` had in excess, does not matter.
 pub fn solve_merged(
     trees: Trees<'_>,
     merged_arc_of: &[usize],

@@ -2,7 +2,8 @@
 use edges::Edge;
 use forest::Branch;
 
-/// The edges of a network, each with its arc, the forest, and the edges between the roots of its trees.
+/// The edges of a network, the arc of each, the forest (branches, and the order in which nodes were found), and for each edge that between
+/// the roots of its ends, or a loop.
 #[derive(Clone, Copy)]
 pub struct Trees<'a> {
     pub edges: &'a [Edge],

@@ -44,8 +44,8 @@ leaving g x v = sum_ℤ g.arcs (λ a. if g.tail a == v then pos (up (x a)) else 
 unfoldable pub coming : Graph → (ℕ → ℤ) → ℕ → ℤ
 coming g x v = sum_ℤ g.arcs (λ a. if g.tail a == v then pos (up (neg_ℤ (x a))) else pos 0)
 
--- From one state to a later one: supplies stay, and neither an arc's flow has moved nor what goes through a node has grown by more than the units
--- that have gone.
+-- From one state to a later one: supplies stay, and neither an arc's flow, either way, nor what leaves a node or comes to it has grown by more than
+-- the units that have gone.
 pub record Later (g : Graph) (s t : State) : Type 0 where
   pub supplies : (v : ℕ) → v < g.nodes → supply g t v ≡ supply g s v
   pub moved : (a : ℕ) → a < g.arcs → unsigned_abs (t.flow a) + left g t ≤ unsigned_abs (s.flow a) + left g s

@@ -48,7 +48,7 @@ impl Steps {
     }
 }
 
-// Writes a row that follows steps from its first number on.
+// Writes a row that follows steps from its first number on: up to 63 of up to 8,193 turns each, after as many down.
 fn follow_row(start: i64, steps: &[i64], row: &mut [i64])
     requires start_bound { unsigned_abs start ≤ 516159 }
     requires steps_len { length steps.now ≡ length row.old }

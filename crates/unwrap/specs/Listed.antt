@@ -23,7 +23,7 @@ pub record IsEdge (es : Edges) (e : ℕ) (edge : Edge) : Type 0 where
   pub limit_is : edge.limit ≡ es.limit e
   pub back_limit_is : edge.back_limit ≡ es.back_limit e
 
--- an edge between two nodes along which a unit costs nothing
+-- an edge between two nodes along which a unit costs nothing, or less, which none of a field's does
 abbrev pub free : Edge → Bool
 free e = int_le e.cost (pos 0) && not (e.from == e.to)
 

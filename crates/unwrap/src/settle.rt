@@ -42,7 +42,7 @@ fn free_count(edges: &[Edge]) -> usize
         .count()
 }
 
-// Settles what squares are off by, between trees of squares where that pays: if more than an eighth of all steps cost nothing.
+// Settles what squares are off by, between trees of squares where that pays: if more than an eighth of the edges join two nodes at no cost.
 pub fn settle(field: &Field, edges: &[Edge], arc_of: &[usize], flow: &mut Flow, search: &mut Search)
     requires squares { AreSquares (field_of field.now) (edges_of edges.now) }
     requires nodes { (graph flow.old.net).nodes ≡ places (field_of field.now) }

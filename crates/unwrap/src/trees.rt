@@ -4,7 +4,7 @@ ghost use Rattle.sums.specs.Sum.{sum_to, sum_ℤ};
 ghost use Rattle.grid.specs.Model.{field_of};
 ghost use Rattle.network.specs.Network.{graph};
 ghost use Rattle.network.specs.Sound.{state};
-ghost use Rattle.ways.specs.Tree.{Roomy, SameSlices};
+ghost use Rattle.ways.specs.Tree.{Roomy};
 ghost use Rattle.edges.specs.Edges.{Built};
 ghost use Rattle.edges.specs.Lists.{edges_of};
 ghost use Rattle.flow.specs.Same.{SameFlow};
@@ -23,14 +23,14 @@ use merged::{Trees, merge, solve_merged};
 use network::{Arc, Flow, Network, Node};
 use ways::Search;
 
-// Makes a network of the edges between trees, and settles there and in the whole network what the nodes have in excess.
+// Makes a network of the edges between trees, and settles there and in the whole network what the nodes have in excess. As `settle_edges` does:
+// what is made is lent from local arrays, so no function of both could answer it.
 fn settle_merged(trees: Trees<'_>, flow: &mut Flow, search: &mut Search) -> Result<(), Stuck>
     requires planned { Planned (graph flow.old.net) trees }
     requires room { Roomy (graph flow.old.net).nodes search.old }
     requires even { sum_ℤ (graph flow.old.net).nodes (state flow.old).excess ≡ pos 0 }
     requires few { sum_to (graph flow.old.net).nodes (λ v. unsigned_abs ((state flow.old).excess v)) ≤ 2 ^ 16 }
     ensures same { SameFlow flow.old flow.new }
-    ensures slices { SameSlices search.old search.new }
     ensures met { (place : ℕ → ℕ) × Met (graph flow.old.net) (state flow.old).excess (state flow.new) place result }
 {
     let net = flow.net;
@@ -65,8 +65,9 @@ fn settle_merged(trees: Trees<'_>, flow: &mut Flow, search: &mut Search) -> Resu
     solve_merged(trees, arc_of, &mut merged, search, flow)
 }
 
-// Settles what squares are off by between trees of squares, which are joined by edges that cost nothing, and then within each, where it
-// costs nothing. Not inlined: else its arrays would be made room for on the stack, page by page, where it is not called.
+// Settles what squares are off by: between trees of squares, in each of which edges that cost nothing join all, and then within each, for
+// nothing. Not inlined: else its arrays would be made room for on the stack, page by page, where it is not called. One lifetime for both
+// lists, as `Trees` has it.
 #[inline(never)]
 pub fn settle_trees<'a>(
     field: &Field,
@@ -81,7 +82,6 @@ pub fn settle_trees<'a>(
     requires arc_of { length arc_of.now ≡ length edges.now }
     requires room { Roomy (graph flow.old.net).nodes search.old }
     ensures same { SameFlow flow.old flow.new }
-    ensures slices { SameSlices search.old search.new }
     ensures crossed { Crossed (field_of field.now) (λ e. slice_index arc_of.now e) (state flow.new).flow }
 {
     let n = field.places();
@@ -101,6 +101,6 @@ pub fn settle_trees<'a>(
         order,
         merged,
     };
-    // It always can, as no edge has a limit that counts.
+    // Never stuck: no edge has a limit that counts.
     let _ = settle_merged(trees, flow, search);
 }

@@ -34,7 +34,8 @@ pub data Chain (g : Graph) (t : Tree) : ℕ → ℕ → Type 0 where
   here : {v : ℕ} → Chain g t v v
   back : {u v : ℕ} → (u ≢ t.source) → Chain g t (g.tail (t.via u)) v → Chain g t u v
 
--- d units have gone from node v to the target; no arc before v is touched
+-- d units have gone from node v to the target; no arc before v is touched, and what leaves a node or comes to it has grown by no more than d,
+-- and not at all where the way has not come yet
 pub record Walking (g : Graph) (s s' : State) (t : Tree) (v : ℕ) (d : ℤ) : Type 0 where
   pub node : v < g.nodes
   pub on : OnWay t v
