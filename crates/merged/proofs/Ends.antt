@@ -29,6 +29,7 @@ all_merged root nodes edges merged long between roots h =
       across_from = λ e l. (h e l).across_from;
       across_to = λ e l. (h e l).across_to;
       within = λ e l. (h e l).within;
+      loop = λ e l. (h e l).loop;
       cost = λ e l. (h e l).cost;
       back = λ e l. (h e l).back;
       limit = λ e l. (h e l).limit;

@@ -17,7 +17,7 @@ pub record MergedEdge (root : ℕ → ℕ) (edge merged : Edge) : Type 0 where
   pub limit : merged.limit ≡ edge.limit
   pub back_limit : merged.back_limit ≡ edge.back_limit
 
--- the edges of a list, by their number; where loops are is left out, since it changes only how long a search takes
+-- the edges of a list, by their number
 pub record Merged (nodes : ℕ) (root : ℕ → ℕ) (es es' : Edges) : Type 0 where
   pub count : es'.count ≡ es.count
   pub from : (e : ℕ) → e < es.count → es'.from e < nodes
@@ -25,6 +25,7 @@ pub record Merged (nodes : ℕ) (root : ℕ → ℕ) (es es' : Edges) : Type 0 w
   pub across_from : (e : ℕ) → e < es.count → (root (es.from e) ≢ root (es.to e)) → es'.from e ≡ root (es.from e)
   pub across_to : (e : ℕ) → e < es.count → (root (es.from e) ≢ root (es.to e)) → es'.to e ≡ root (es.to e)
   pub within : (e : ℕ) → e < es.count → root (es.from e) ≡ root (es.to e) → es'.from e ≡ es'.to e
+  pub loop : (e : ℕ) → e < es.count → root (es.from e) ≡ root (es.to e) → es'.from e ≡ (if root (es.from e) == es.from e then es.to e else es.from e)
   pub cost : (e : ℕ) → e < es.count → es'.cost e ≡ es.cost e
   pub back : (e : ℕ) → e < es.count → es'.back e ≡ es.back e
   pub limit : (e : ℕ) → e < es.count → es'.limit e ≡ es.limit e
