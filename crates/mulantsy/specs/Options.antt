@@ -1,4 +1,4 @@
--- Words of the command line. Assumes nothing: these are definitions.
+-- Words of the command line.
 use Rattle.std.specs.Prelude.{ℕ, Bool, false, if◌then◌else◌, List, [], ◌∷◌, codes, ◌==◌}
 use Rattle.std.specs.Str.{bytes_eq}
 use Rattle.mulantsy.specs.declared.options.Word.{Word}

@@ -3,7 +3,7 @@
 
 mod options;
 
-use answers::{Form, View, answer_to_text};
+use report::{Form, View, answer_to_text};
 use anyhow::anyhow;
 use options::{USAGE, Word, word_of};
 use std::io::Read;

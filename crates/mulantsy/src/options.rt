@@ -23,7 +23,7 @@ pub enum Word {
     File,
 }
 
-// What a word asks for: what begins with a dash and is no option is unknown, and all else names a file.
+/// What a word asks for: what begins with a dash and is no option is unknown, and all else names a file.
 pub fn word_of(word: &str) -> Word
     ensures { result ≡ word_of word.now }
 {

@@ -1,4 +1,4 @@
--- Shades of numbers. Assumes nothing.
+-- Shades of numbers.
 use Rattle.std.proofs.Common.{◌≡◌, ◌⊎◌, ◌↔◌, inl, inr, subst, Option, Some, None, ℕ, zero, suc, ◌*◌, ◌/◌, ◌<◌, ◌≤◌, Bool, true, false, cond, eqb, leb, List, [], length, get_or, ℤ, pos, ◌-ℤ◌, nat_abs, ◌≤ℤ◌, sym, refl, ap, ◌∙◌, div-mul-le_self, arith}
 use Rattle.std.specs.Option.{unwrap_or, IsNone, IfSome}
 use Rattle.std.specs.List.{Contains, All}

@@ -1,7 +1,7 @@
--- Plain pictures of grey. Assumes nothing: these are definitions.
+-- Plain pictures of grey.
 use Rattle.std.specs.Prelude.{ℕ, ◌*◌, ◌/◌, ◌<◌, ◌≤◌, if◌then◌else◌, List, ◌++◌, map, length, ℤ, pos, ◌-ℤ◌, ◌≤ℤ◌, codes, decimal, fold, ◌==◌, nat_le, slice_index_or, unsigned_abs}
 use Rattle.std.specs.Int.{int_min, int_max}
-use Rattle.printing.specs.Rows.{rows_text}
+use Rattle.print.specs.Rows.{rows_text}
 
 -- so much of a span, of 255
 abbrev pub scaled : ℕ → ℕ → ℕ

@@ -4,7 +4,7 @@
 ghost use Rattle.std.specs.Prelude.{◌≡◌, ◌<◌, ◌↔◌, [], map, pos, ◌≤ℤ◌, IfOk, IfSome, IsNone, Contains, All, string_bytes};
 ghost use Rattle.pictures.specs.Picture.{scaled, shade, least, greatest, shades, head_text, picture_text, NeverDarker};
 
-use printing::rows::push_rows;
+use print::rows::push_rows;
 use std::alloc::{AllocError, Global};
 
 // So much of a span, of 255.
@@ -17,18 +17,18 @@ fn part_of(part: u64, span: u64) -> u8
     if part >= span {
         return 255;
     }
-    // A part less than the whole: the cast loses nothing, and `TryFrom` would tell of an error that there is not.
+    // A part less than the whole: the cast loses nothing.
     (u128::from(part) * 255 / u128::from(span)) as u8
 }
 
-// The shade of a number between the least and the greatest.
+/// The shade of a number between the least and the greatest.
 pub fn shade_of(low: i64, high: i64, z: i64) -> u8
     ensures { result ≡ shade low high z }
 {
     part_of(z.abs_diff(low), high.abs_diff(low))
 }
 
-// The least of the numbers; None where there are none. It and `highest` are the library's two methods, with what a picture needs of them.
+// The least of the numbers; None where there are none.
 fn lowest(values: &[i64]) -> Option<i64>
     ensures none { IsNone result ↔ (values.now ≡ []) }
     ensures one { IfSome result (Contains values.now) }
@@ -37,7 +37,7 @@ fn lowest(values: &[i64]) -> Option<i64>
     values.iter().copied().min()
 }
 
-// The least of the numbers, 0 where there are none.
+/// The least of the numbers, 0 where there are none.
 pub fn least_of(values: &[i64]) -> i64
     ensures { result ≡ least values.now }
 {
@@ -53,7 +53,7 @@ fn highest(values: &[i64]) -> Option<i64>
     values.iter().copied().max()
 }
 
-// The greatest of the numbers, 0 where there are none.
+/// The greatest of the numbers, 0 where there are none.
 pub fn greatest_of(values: &[i64]) -> i64
     ensures { result ≡ greatest values.now }
 {
@@ -77,8 +77,7 @@ fn head_of(heap: Global, wide: usize, high: usize) -> Result<String, AllocError>
     format!(in heap; "P2\n{wide} {high}\n255\n")
 }
 
-// A picture of numbers, so many wide and high. These three are no struct: only this function and push_rows take them, and each makes of
-// them at once what it needs.
+/// A picture of numbers, so many wide and high.
 pub fn picture(heap: Global, wide: usize, high: usize, values: &[i64]) -> Result<String, AllocError>
     ensures { IfOk result (λ s. string_bytes s ≡ picture_text wide high values.now) }
 {
@@ -88,14 +87,14 @@ pub fn picture(heap: Global, wide: usize, high: usize, values: &[i64]) -> Result
     Ok(out)
 }
 
-// What was seen, as numbers of a picture.
+/// What was seen, as numbers of a picture.
 pub fn numbers_of(heap: Global, seen: &[u32]) -> Result<Vec<i64>, AllocError>
     ensures { IfOk result (λ v. v.items ≡ map pos seen.now) }
 {
     seen.iter().map(|n| i64::from(*n)).collect(heap)
 }
 
-// Shades are 255 at most, and what is higher is never darker.
+/// Shades are 255 at most, and what is higher is never darker.
 pub fn never_darker()
     ensures { NeverDarker }
 {}

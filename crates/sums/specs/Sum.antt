@@ -1,4 +1,4 @@
--- Sums of the first n members of a function, over the naturals and over the integers. Assumes nothing: these are definitions.
+-- Sums of the first n members of a function, over the naturals and over the integers.
 use Rattle.std.specs.Prelude.{ℕ, zero, suc, ◌+◌, ℤ, pos, ◌+ℤ◌}
 
 -- g 0 + .. + g (n - 1)

@@ -1,4 +1,4 @@
--- The first piece of a text. Assumes nothing.
+-- The first piece of a text.
 use Rattle.std.proofs.Common.{◌≡◌, ℕ, zero, suc, ◌<◌, ◌≤◌, Bool, true, false, if◌then◌else◌, List, [], ◌∷◌, length, get_or, take, drop, sym, refl, ap, ◌∙◌, arith}
 use Rattle.text.specs.declared.pieces.Mark.{Mark}
 use Rattle.text.specs.Pieces.{parts, onto, pieces, filled, words}

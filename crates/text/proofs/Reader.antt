@@ -1,6 +1,6 @@
--- Documents, line by line. Assumes nothing.
+-- Documents, line by line.
 use Rattle.std.proofs.Common.{◌≡◌, ℕ, suc, ◌+◌, List, [], ◌∷◌, Ok, Err, Option, Result, MatchResult, IsErrAnd, sym, refl, ap, ◌∙◌, subst, add-one}
-use Rattle.grid.specs.declared.refusal.Refusal.{Refusal}
+use Rattle.phase_input.specs.declared.refusal.Refusal.{Refusal}
 use Rattle.text.specs.declared.draft.Draft.{Draft}
 use Rattle.text.specs.declared.document.Unread.{Unread}
 use Rattle.text.specs.declared.fault.Fault.{Fault}

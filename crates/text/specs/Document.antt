@@ -1,8 +1,8 @@
--- Documents: a field and its prices as a text says them. Assumes nothing: these are definitions.
+-- Documents: a field and its prices as a text says them.
 use Rattle.std.specs.Prelude.{◌≡◌, ℕ, suc, ◌+◌, ◌*◌, ◌/◌, Bool, if◌then◌else◌, List, [], ◌∷◌, length, take, drop, replicate, Some, None, Ok, Err, vec_items, Option, Result, ◌==◌}
 use Rattle.std.specs.Option.{unwrap_or}
-use Rattle.grid.specs.declared.refusal.Refusal.{Refusal}
-use Rattle.grid.specs.declared.refusal.Refusal.TheVariants.{Text}
+use Rattle.phase_input.specs.declared.refusal.Refusal.{Refusal}
+use Rattle.phase_input.specs.declared.refusal.Refusal.TheVariants.{Text}
 use Rattle.text.specs.declared.document.Document.{Document}
 use Rattle.text.specs.declared.document.Unread.{Unread}
 use Rattle.text.specs.declared.document.Unread.TheVariants.{Refused, Memory}

@@ -1,4 +1,4 @@
--- What has been read of a document, line by line. Assumes nothing: these are definitions.
+-- What has been read of a document, line by line.
 use Rattle.std.specs.Prelude.{◌≡◌, ℕ, ◌-◌, Bool, true, false, if◌then◌else◌, ◌||◌, List, [], length, Some, None, Ok, Err, vec_items, Option, Result, ◌==◌}
 use Rattle.text.specs.declared.draft.Draft.{Draft}
 use Rattle.text.specs.declared.fault.Fault.{Fault}

@@ -1,4 +1,4 @@
--- What a line of a text says. Assumes nothing: these are definitions.
+-- What a line of a text says.
 use Rattle.std.specs.Prelude.{ℕ, Bool, false, if◌then◌else◌, List, [], ◌∷◌, Some, None, codes, Option, ◌==◌}
 use Rattle.std.specs.Option.{option_map}
 use Rattle.std.specs.Str.{bytes_eq}

@@ -1,4 +1,4 @@
--- Numbers written in decimal digits. Assumes nothing: these are definitions.
+-- Numbers written in decimal digits.
 use Rattle.std.specs.Option.{option_and_then}
 use Rattle.std.specs.Prelude.{ℕ, ◌+◌, ◌-◌, ◌*◌, min, if◌then◌else◌, ◌&&◌, List, [], ◌∷◌, Some, None, Option, nat_le}
 

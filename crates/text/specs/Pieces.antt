@@ -1,4 +1,4 @@
--- Lines and words: the pieces of a text between marks. Assumes nothing: these are definitions.
+-- Lines and words: the pieces of a text between marks.
 use Rattle.std.specs.Prelude.{◌≡◌, ℕ, ◌<◌, Bool, if◌then◌else◌, ◌||◌, List, [], ◌∷◌, length, Some, None, Option, ◌==◌}
 use Rattle.std.specs.Borrow.{Bor}
 use Rattle.text.specs.declared.pieces.Mark.{Mark}

@@ -1,4 +1,4 @@
--- Rows of numbers. Assumes nothing: these are definitions.
+-- Rows of numbers.
 use Rattle.std.specs.Prelude.{ℕ, List, [], ◌∷◌, ◌++◌, Some, Option}
 use Rattle.std.specs.Option.{option_and_then}
 use Rattle.text.specs.Numeral.{numeral, capped, largest_entry}

@@ -8,10 +8,10 @@ use crate::draft::Draft;
 use crate::fault::Fault;
 use crate::pieces::Lines;
 use crate::row::parted;
-use grid::refusal::Refusal;
+use phase_input::refusal::Refusal;
 use std::alloc::{AllocError, Global};
 
-// A field as a text says it, with lists row by row from the upper left: three, as the entry of the project takes them.
+/// A field as a text says it, with lists row by row from the upper left.
 #[derive(Drop)]
 pub struct Document {
     pub wide: u64,
@@ -23,7 +23,7 @@ pub struct Document {
     pub squares: bool,
 }
 
-// Why there is no document: the text is turned away, or there is no memory for it.
+/// Why there is no document: the text is refused, or there is no memory for it.
 #[derive(Clone, Copy, PartialEq, Eq, Debug)]
 pub enum Unread {
     Refused(Refusal),
@@ -58,7 +58,7 @@ impl Fault {
     }
 }
 
-// How many rows so many numbers are. Sizes are counted as usize and told as u64: by `as`, for want of a From.
+// How many rows so many numbers are.
 fn rows_in(numbers: usize, wide: usize) -> usize
     ensures { result ≡ rows_in numbers wide }
 {
@@ -101,7 +101,7 @@ impl Draft {
         })
     }
 
-    // The document that the lines make.
+    /// The document that the lines make.
     pub fn finished(self, heap: Global) -> Result<Document, AllocError>
         ensures { IfOk result (λ d. contents d ≡ finished (notes self)) }
     {
@@ -112,13 +112,12 @@ impl Draft {
     }
 }
 
-// What a text says, or the first line that can't be read.
+/// What a text says, or the first line that can't be read.
 pub fn read(heap: Global, text: &[u8]) -> Result<Document, Unread>
     ensures { Reads (reading text.now) result }
 {
     let mut draft = Draft::new(heap);
     for (number, line) in Lines(text).enumerate() {
-        // As a u64, for which there is no From.
         let at_line = |fault: Fault| -> Unread
             ensures { result ≡ stopped_at fault number }
         { fault.at(number as u64) };

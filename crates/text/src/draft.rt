@@ -10,9 +10,8 @@ use crate::numeral::entry;
 use crate::row::push_row;
 use std::alloc::Global;
 
-// The lines so far: the turn and the price where there were any, whether the squares are asked for, how wide rows are, and the
-// numbers of all rows. The width is 0 before the first row: no row is 0 wide, and a document without rows is, so that an Option would
-// be unwrapped to 0 again.
+/// The lines so far: the turn and the price where there were any, whether the squares are asked for, how wide rows are, and the
+/// numbers of all rows. The width is 0 before the first row.
 #[derive(Drop)]
 pub struct Draft {
     pub(crate) turn: Option<u64>,
@@ -22,9 +21,8 @@ pub struct Draft {
     pub(crate) numbers: Vec<u32>,
 }
 
-// A line, and where a document is finished the heap, is one thing more beside the draft: it is looked at once, and no struct would keep a fact of it.
 impl Draft {
-    // Before the first line.
+    /// Before the first line.
     pub fn new(heap: Global) -> Draft
         ensures { notes result ≡ blank }
     {
@@ -76,7 +74,7 @@ impl Draft {
         Ok(Draft { wide, ..self })
     }
 
-    // With one more line.
+    /// With one more line.
     pub fn with_line(self, line: &[u8]) -> Result<Draft, Fault>
         ensures { Drafted (step (notes self) line.now) result }
     {

@@ -4,7 +4,7 @@ ghost use Rattle.text.specs.declared.fault.Fault.TheVariants.{Memory};
 
 use std::alloc::AllocError;
 
-// It can't be read, or there is no memory for it.
+/// It can't be read, or there is no memory for it.
 #[derive(Clone, Copy, PartialEq, Eq, Debug)]
 pub enum Fault {
     Unreadable,

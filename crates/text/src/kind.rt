@@ -6,7 +6,7 @@ ghost use Rattle.text.specs.Pieces.{words};
 use crate::numeral::numeral_of;
 use crate::pieces::next_word;
 
-// What a line says: nothing, the turn, one price for all steps, a wish for the squares, or a row of numbers, which is yet to be read.
+/// What a line says: nothing, the turn, one price for all steps, a wish for the squares, or a row of numbers, which is yet to be read.
 #[derive(Clone, Copy, PartialEq, Eq, Debug)]
 pub enum Kind {
     Nothing,
@@ -27,7 +27,7 @@ fn only_number(rest: &[u8]) -> Option<u64>
     numeral_of(word)
 }
 
-// What a line says; None where it can't be read.
+/// What a line says; None where it can't be read.
 pub fn kind_of(line: &[u8]) -> Option<Kind>
     ensures { result ≡ kind_of (words line.now) }
 {

@@ -20,7 +20,7 @@ fn extended(n: u64, d: u8) -> u64
     n.saturating_mul(10).saturating_add(u64::from(d))
 }
 
-// The number that a word writes, the largest where it is too large; None where it is no number.
+/// The number that a word writes, the largest where it is too large; None where it is no number.
 pub fn numeral_of(word: &[u8]) -> Option<u64>
     ensures { result ≡ option_map (capped u64.MAX) (numeral word.now) }
 {
@@ -34,7 +34,7 @@ pub fn numeral_of(word: &[u8]) -> Option<u64>
     Some(n)
 }
 
-// A number in the range of a list's entries: `try_from`, the largest where it is too large.
+/// A number in the range of a list's entries: `try_from`, the largest where it is too large.
 pub fn entry(n: u64) -> u32
     ensures { result ≡ capped u32.MAX n }
 {

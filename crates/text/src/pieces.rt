@@ -3,8 +3,7 @@ ghost use Rattle.std.specs.Prelude.{◌≡◌, ℕ, ◌+◌, ◌<◌, ◌≤◌,
 ghost use Rattle.std.specs.Iterator.{YieldsFirstBy, item_count};
 ghost use Rattle.text.specs.Pieces.{parts, pieces, lines, words, First};
 
-// What parts the pieces: ends of lines, or blanks. An enum and no closure: the definition of pieces takes one too, where a closure would
-// need a test beside it in each contract, and a proof at each call that it is the one.
+/// What parts the pieces: ends of lines, or blanks.
 #[derive(Clone, Copy, PartialEq, Eq, Debug)]
 pub enum Mark {
     Newline,
@@ -12,7 +11,7 @@ pub enum Mark {
 }
 
 impl Mark {
-    // Whether a byte parts two pieces. A carriage return is a blank, so that lines may end with one.
+    /// Whether a byte parts two pieces. A carriage return is a blank, so that lines may end with one.
     pub fn parts(self, b: u8) -> bool
         ensures { result ≡ parts self b }
     {
@@ -54,7 +53,7 @@ fn first_piece(mark: Mark, text: &[u8]) -> (&[u8], &[u8])
     around(text, piece_len(mark, text))
 }
 
-// The first line, and the text after it; None where there is none.
+/// The first line, and the text after it; None where there is none.
 pub fn next_line(text: &[u8]) -> Option<(&[u8], &[u8])>
     ensures { First lines text.now result }
 {
@@ -64,7 +63,7 @@ pub fn next_line(text: &[u8]) -> Option<(&[u8], &[u8])>
     Some(first_piece(Mark::Newline, text))
 }
 
-// The first word of a line, and what comes after it; None where there is none.
+/// The first word of a line, and what comes after it; None where there is none.
 pub fn next_word(line: &[u8]) -> Option<(&[u8], &[u8])>
     ensures { First words line.now result }
 {
@@ -80,7 +79,7 @@ pub fn next_word(line: &[u8]) -> Option<(&[u8], &[u8])>
     None
 }
 
-// The lines of a text, from the first.
+/// The lines of a text, from the first.
 #[derive(Drop)]
 pub struct Lines<'a>(pub &'a [u8]);
 
@@ -98,7 +97,7 @@ impl<'a> Iterator for Lines<'a> {
     }
 }
 
-// The words of a line, from the first.
+/// The words of a line, from the first.
 #[derive(Drop)]
 pub struct Words<'a>(pub &'a [u8]);
 

@@ -17,10 +17,12 @@ fn push_number(numbers: &mut Vec<u32>, n: u64) -> Result<(), AllocError>
     Ok(())
 }
 
-// Puts the numbers of a line after those that are there.
+/// Puts the numbers of a line after those that are there.
 pub fn push_row(numbers: &mut Vec<u32>, line: &[u8]) -> Result<(), Fault>
-    ensures ok { OnOk result (row_onto numbers.old.items (words line.now) ≡ Some numbers.new.items) }
-    ensures unreadable { result ≡ Err Fault.Unreadable → row_onto numbers.old.items (words line.now) ≡ None }
+    ensures ok { OnOk result
+        (row_onto numbers.old.items (words line.now) ≡ Some numbers.new.items) }
+    ensures unreadable { result ≡ Err Fault.Unreadable →
+        row_onto numbers.old.items (words line.now) ≡ None }
 {
     for word in Words(line) {
         push_number(numbers, numeral_of(word).ok_or(Fault::Unreadable)?)?;
@@ -28,7 +30,7 @@ pub fn push_row(numbers: &mut Vec<u32>, line: &[u8]) -> Result<(), Fault>
     Ok(())
 }
 
-// The first n elements, or all where there are fewer, and the rest.
+/// The first n elements, or all where there are fewer, and the rest.
 pub fn parted<T>(list: &[T], n: usize) -> (&[T], &[T])
     ensures front { result.0.now ≡ take n list.now }
     ensures back { result.1.now ≡ drop n list.now }

@@ -1,25 +1,24 @@
 -- Steps with flows across them are those of turns that cost least.
-use Rattle.std.proofs.Common.{◌≡◌, ℕ, zero, suc, pred, ◌+◌, ◌*◌, ◌/◌, ◌%◌, ◌<◌, ◌≤◌, List, ◌++◌, length, get_or, ℤ, pos, negsuc, ◌+ℤ◌, nat_abs, sym, refl, ap, ◌∙◌, ap₂, arith}
+use Rattle.std.proofs.Common.{◌≡◌, ℕ, suc, ◌+◌, ◌*◌, ◌<◌, ◌≤◌, List, ◌++◌, length, get_or, ℤ, pos, ◌+ℤ◌, nat_abs, sym, refl, ap, ◌∙◌, ap₂, arith}
 use Rattle.std.proofs.lemmas.List.{get_or_append_left, get_or-append-add}
-use Rattle.std.proofs.lemmas.Nat.{mul-add-lt, div-mul-add, mod-mul-add}
-use Rattle.sums.specs.Sum.{sum_to, sum_ℤ}
-use Rattle.sums.proofs.Sum.{sum_ℤ_ext, sum_zero_each}
-use Rattle.grid.specs.Field.{Field, round, turns_in}
-use Rattle.grid.specs.Square.{is_off, squares_off}
-use Rattle.grid.specs.Model.{turns_right, turns_below}
-use Rattle.laws.specs.Cost.{integral, turn_steps}
-use Rattle.laws.specs.Promise.{AllComeBack}
-use Rattle.laws.proofs.Fields.{cost_ext}
-use Rattle.laws.proofs.Integral.{come_back_turns}
-use Rattle.network.specs.Graph.{Graph}
-use Rattle.edges.specs.Edges.{Built}
-use Rattle.squares.specs.Squares.{places, squares_edges, turns_from}
-use Rattle.turns.specs.Follow.{Expected}
+use Rattle.std.proofs.lemmas.Nat.{mul-add-lt}
+use Rattle.sums.specs.Sum.{sum_ℤ}
+use Rattle.sums.proofs.Sum.{sum_ℤ_ext}
+use Rattle.phase_field.specs.Field.{Field, turns_in}
+use Rattle.phase_field.specs.Model.{turns_right, turns_below}
+use Rattle.phase_cost.specs.Steps.{integral, turn_steps, steps_in, NoResidues}
+use Rattle.phase_cost.proofs.Fields.{cost_ext}
+use Rattle.phase_cost.proofs.Integral.{come_back_turns}
+use Rattle.net_graph.specs.Graph.{Graph}
+use Rattle.net_build.specs.Edges.{Represents}
+use Rattle.squares_net.specs.Squares.{places, squares_edges, turns_from}
+use Rattle.phase_turns.specs.Follow.{Expected}
+use Rattle.phase_turns.proofs.Expecting.{listed_right, listed_below, none_off}
 use Rattle.unwrap.specs.Settled.{Crossed, Added, Addable, LeastSteps}
 use Rattle.unwrap.proofs.Adding.{added_small}
 
 -- flows along some of a network's edges, from one on, can be added to small steps
-pub addable : (f : Field) (g : Graph) (first : ℕ) (arc arcs : List ℕ) (flow steps : List ℤ) → Built (squares_edges f) g (λ e. get_or arc e 0) → Crossed f (λ e. get_or arc e 0) (λ a. get_or flow a (pos 0)) →
+pub addable : (f : Field) (g : Graph) (first : ℕ) (arc arcs : List ℕ) (flow steps : List ℤ) → Represents (squares_edges f) g (λ e. get_or arc e 0) → Crossed f (λ e. get_or arc e 0) (λ a. get_or flow a (pos 0)) →
     first + length arcs ≤ places f + places f → ((p : ℕ) → p < length arcs → get_or arc (first + p) 0 ≡ get_or arcs p 0) →
     length flow ≡ g.arcs → length arcs ≤ length steps → ((p : ℕ) → nat_abs (get_or steps p (pos 0)) ≤ 1) → Addable arcs flow steps
 unfolding squares_edges
@@ -31,13 +30,13 @@ addable f g first arc arcs flow steps b c few part m k small = record {
 }
 
 -- the first edges, and those behind them
-pub addable_first : (f : Field) (g : Graph) (arc r d : List ℕ) (flow steps : List ℤ) → Built (squares_edges f) g (λ e. get_or arc e 0) → Crossed f (λ e. get_or arc e 0) (λ a. get_or flow a (pos 0)) →
+pub addable_first : (f : Field) (g : Graph) (arc r d : List ℕ) (flow steps : List ℤ) → Represents (squares_edges f) g (λ e. get_or arc e 0) → Crossed f (λ e. get_or arc e 0) (λ a. get_or flow a (pos 0)) →
     arc ≡ r ++ d → length r ≤ places f → length flow ≡ g.arcs → length r ≤ length steps → ((p : ℕ) → nat_abs (get_or steps p (pos 0)) ≤ 1) → Addable r flow steps
 addable_first f g arc r d flow steps b c e few m k small =
     addable f g 0 arc r flow steps b c (omega arith)
     (λ p l. ap (λ (xs : List ℕ). get_or xs (0 + p) 0) e ∙ ap (λ (i : ℕ). get_or (r ++ d) i 0) (omega arith) ∙ get_or_append_left r d 0 p l) m k small
 
-pub addable_rest : (f : Field) (g : Graph) (arc r d : List ℕ) (flow steps : List ℤ) → Built (squares_edges f) g (λ e. get_or arc e 0) → Crossed f (λ e. get_or arc e 0) (λ a. get_or flow a (pos 0)) →
+pub addable_rest : (f : Field) (g : Graph) (arc r d : List ℕ) (flow steps : List ℤ) → Represents (squares_edges f) g (λ e. get_or arc e 0) → Crossed f (λ e. get_or arc e 0) (λ a. get_or flow a (pos 0)) →
     arc ≡ r ++ d → length r ≤ places f → length d ≤ places f → length flow ≡ g.arcs → length d ≤ length steps → ((p : ℕ) → nat_abs (get_or steps p (pos 0)) ≤ 1) → Addable d flow steps
 addable_rest f g arc r d flow steps b c e few rest m k small =
     addable f g (length r) arc d flow steps b c (omega arith)
@@ -54,19 +53,6 @@ in_integral dr db x y = refl
 in_turns : (f : Field) (arc : ℕ → ℕ) (flow : ℕ → ℤ) (x y : ℕ) → turns_from f arc flow x y ≡ sum_ℤ y (λ j. turns_below f 0 j +ℤ flow (arc (places f + (j * f.wide + 0)))) +ℤ sum_ℤ x (λ i. turns_right f i y +ℤ flow (arc (y * f.wide + i)))
 unfolding turns_from integral turn_steps
 in_turns f arc flow x y = refl
-
--- expected steps by column and row
-listed_right : (f : Field) (right below : List ℤ) → Expected f right below → (x y : ℕ) → suc x < f.wide → y < f.high → get_or right (y * f.wide + x) (pos 0) ≡ turns_right f x y
-listed_right f right below e x y k l =
-    let column : (y * f.wide + x) % f.wide ≡ x = mod-mul-add y f.wide x (omega arith) in
-    let line : (y * f.wide + x) / f.wide ≡ y = div-mul-add y f.wide x (omega arith) in
-    e.right_at (y * f.wide + x) (omega (arith, column), omega (arith, line)) ∙ ap₂ (λ (u v : ℕ). turns_right f u v) column line
-
-listed_below : (f : Field) (right below : List ℤ) → Expected f right below → (x y : ℕ) → x < f.wide → suc y < f.high → get_or below (y * f.wide + x) (pos 0) ≡ turns_below f x y
-listed_below f right below e x y k l =
-    let column : (y * f.wide + x) % f.wide ≡ x = mod-mul-add y f.wide x k in
-    let line : (y * f.wide + x) / f.wide ≡ y = div-mul-add y f.wide x k in
-    e.below_at (y * f.wide + x) (omega (arith, line)) ∙ ap₂ (λ (u v : ℕ). turns_below f u v) column line
 
 pub least_from : (f : Field) (arcs downs : List ℕ) (flow right below right' below' : List ℤ) → length arcs ≡ places f → length downs ≡ places f →
     Crossed f (λ e. get_or (arcs ++ downs) e 0) (λ a. get_or flow a (pos 0)) → Expected f right below →
@@ -101,28 +87,16 @@ least_from f arcs downs flow right below right' below' q o c e ar ab r b = recor
 
 -- ---- where all comes back
 
-not_off : (r : ℤ) → is_off r ≡ 0 → r ≡ pos 0
-not_off (pos zero) e = refl
-not_off (pos (suc n)) e = absurd (omega (arith, e))
-not_off (negsuc n) e = absurd (omega (arith, e))
-
-none_off : (f : Field) → squares_off f ≡ 0 → AllComeBack f
-unfolding squares_off
-none_off f e x y k l =
-    not_off (round f x y)
-    (sum_zero_each (pred f.wide) (λ i. is_off (round f i y))
-    (sum_zero_each (pred f.high) (λ j. sum_to (pred f.wide) (λ i. is_off (round f i j))) e y (omega arith)) x (omega arith))
-
 in_expected : (f : Field) (x y : ℕ) → integral (turn_steps f).to_right (turn_steps f).to_below x y ≡ sum_ℤ y (λ j. turns_below f 0 j) +ℤ sum_ℤ x (λ i. turns_right f i y)
 unfolding integral turn_steps
 in_expected f x y = refl
 
 -- the expected steps themselves are those of turns that cost nothing
-pub least_expected : (f : Field) (right below : List ℤ) → 1 ≤ f.turn → squares_off f ≡ 0 → Expected f right below → LeastSteps f right below
-least_expected f right below p z e = record {
+pub least_expected : (f : Field) (right below : List ℤ) → 1 ≤ f.turn → Expected f right below → NoResidues (steps_in f right below) → LeastSteps f right below
+least_expected f right below p e n = record {
   right_small = λ k. omega (arith, e.right_small k);
   below_small = λ k. omega (arith, e.below_small k);
-  least = λ t h u. omega (arith, cost_ext f t (integral (turn_steps f).to_right (turn_steps f).to_below) (λ x y k l. h x y k l ∙ same x y k l), come_back_turns f p (none_off f z));
+  least = λ t h u. omega (arith, cost_ext f t (integral (turn_steps f).to_right (turn_steps f).to_below) (λ x y k l. h x y k l ∙ same x y k l), come_back_turns f p (none_off f right below e n));
 }
   where
     same : (x y : ℕ) → x < f.wide → y < f.high → integral (turns_in f.wide right) (turns_in f.wide below) x y ≡ integral (turn_steps f).to_right (turn_steps f).to_below x y

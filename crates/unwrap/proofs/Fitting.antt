@@ -1,10 +1,10 @@
 -- A field that was taken is fit.
 use Rattle.std.proofs.Common.{◌+◌, ◌*◌, ◌<◌, ◌≤◌, arith}
 use Rattle.std.proofs.lemmas.Nat.{mul-le, mul-add-lt}
-use Rattle.grid.specs.declared.field.Field.{Field as Held}
-use Rattle.grid.specs.Model.{field_of}
-use Rattle.grid.specs.Promise.{Fit}
-use Rattle.squares.specs.Squares.{places}
+use Rattle.phase_field.specs.declared.field.Field.{Field as Held}
+use Rattle.phase_field.specs.Model.{field_of}
+use Rattle.phase_field.specs.Field.{Fit}
+use Rattle.squares_net.specs.Squares.{places}
 
 pub field_fit : (f : Held) → Fit (field_of f)
 field_fit f = record {

@@ -3,6 +3,6 @@ pub mod Building
 pub mod Crossing
 pub mod Fitting
 pub mod Listing
-pub mod Saying
+pub mod Promising
 pub mod Settling
 pub mod Supplying

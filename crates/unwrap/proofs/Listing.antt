@@ -2,12 +2,12 @@
 use Rattle.std.proofs.Common.{◌≡◌, ℕ, ◌+◌, ◌/◌, ◌%◌, ◌<◌, ◌≤◌, List, length, get_or, set, pos, sym, ap, ◌∙◌, subst, ⊎_elim, mul_comm, add-one, arith, get_or-set_other, get_or-set_same}
 use Rattle.std.proofs.lemmas.Bool.{cases_eq}
 use Rattle.std.proofs.lemmas.Nat.{mod_below, div_below, div-add-mod'}
-use Rattle.grid.specs.Field.{Field}
-use Rattle.squares.specs.Squares.{node, places, squares_edges}
-use Rattle.squares.proofs.Squares.{Joins, right_edge, below_edge}
-use Rattle.edges.specs.Ends.{no_edge}
-use Rattle.edges.specs.Lists.{edges_of}
-use Rattle.edges.specs.declared.edge.Edge.{Edge}
+use Rattle.phase_field.specs.Field.{Field}
+use Rattle.squares_net.specs.Squares.{node, places, squares_edges}
+use Rattle.squares_net.proofs.Squares.{Joins, right_edge, below_edge}
+use Rattle.net_build.specs.Ends.{no_edge}
+use Rattle.net_build.specs.Lists.{edges_of}
+use Rattle.net_build.specs.declared.edge.Edge.{Edge}
 use Rattle.unwrap.specs.Listed.{AreSquares, Crosses, IsEdge}
 
 -- an edge across a step is that of the list
@@ -19,7 +19,7 @@ edge_is f e u v price edge j c = record {
   cost_is = c.cost_is ∙ sym j.cost;
   back_is = c.back_is ∙ sym j.cost;
   limit_is = c.limit_is;
-  back_limit_is = c.back_limit_is;
+  reverse_limit_is = c.reverse_limit_is;
 }
 
 pub crosses_at : (u v p u' v' p' : ℕ) (edge : Edge) → u ≡ u' → v ≡ v' → p ≡ p' → Crosses u v p edge → Crosses u' v' p' edge
@@ -29,7 +29,7 @@ crosses_at u v p u' v' p' edge a b e c = record {
   cost_is = c.cost_is ∙ ap pos e;
   back_is = c.back_is ∙ ap pos e;
   limit_is = c.limit_is;
-  back_limit_is = c.back_limit_is;
+  reverse_limit_is = c.reverse_limit_is;
 }
 
 -- the first n edges are listed
@@ -54,7 +54,7 @@ listed_all f n edges q long h = record {
   cost_is = λ e l. (h.is e (omega arith)).cost_is;
   back_is = λ e l. (h.is e (omega arith)).back_is;
   limit_is = λ e l. (h.is e (omega arith)).limit_is;
-  back_limit_is = λ e l. (h.is e (omega arith)).back_limit_is;
+  reverse_limit_is = λ e l. (h.is e (omega arith)).reverse_limit_is;
 }
 
 column_in : (f : Field) (p : ℕ) → 1 ≤ f.wide → p % f.wide < f.wide

@@ -4,24 +4,24 @@ use borrow.Author.Differences.{up}
 use Rattle.std.proofs.lemmas.Int.{ints}
 use Rattle.sums.specs.Sum.{sum_to, sum_ℤ}
 use Rattle.sums.proofs.Sum.{sum_ext, sum_add, sum_ℤ_ext}
-use Rattle.grid.specs.Field.{Field, Turns}
-use Rattle.grid.specs.Promise.{Fit}
-use Rattle.laws.specs.Cost.{Least}
-use Rattle.network.specs.Graph.{Graph, Laws}
-use Rattle.network.specs.Sound.{State, supply}
-use Rattle.ways.proofs.Walk.{parts}
-use Rattle.flow.specs.Answer.{Solved, Outcome}
-use Rattle.flow.specs.Start.{Balanced}
+use Rattle.phase_field.specs.Field.{Field, Turns}
+use Rattle.phase_field.specs.Field.{Fit}
+use Rattle.phase_cost.specs.Cost.{Least}
+use Rattle.net_graph.specs.Graph.{Graph, IsNetwork}
+use Rattle.net_graph.specs.Sound.{State, supply}
+use Rattle.net_search.proofs.PathPush.{parts}
+use Rattle.net_solve.specs.Promise.{IsSolution, Outcome}
+use Rattle.net_solve.specs.Promise.{Balanced}
 use Rattle.std.specs.Prelude.{Result, Ok, Err}
-use Rattle.flow.specs.declared.stuck.Stuck.{Stuck}
-use Rattle.edges.specs.Edges.{Built}
-use Rattle.merged.specs.Crossing.{Met}
-use Rattle.squares.specs.Squares.{places, squares_edges, supply_of, turns_from}
-use Rattle.squares.proofs.Least.{settled_is_least}
-use Rattle.squares.proofs.Stuck.{never_stuck}
-use Rattle.squares.proofs.Start.{starts_empty}
-use Rattle.squares.proofs.Supply.{supplies_even, supplies_few}
-use Rattle.squares.proofs.Solved.{solved_is_least}
+use Rattle.net_solve.specs.declared.infeasible.Infeasible.{Infeasible}
+use Rattle.net_build.specs.Edges.{Represents}
+use Rattle.net_contract.specs.Crossing.{IsContractedSolution}
+use Rattle.squares_net.specs.Squares.{places, squares_edges, supply_of, turns_from}
+use Rattle.squares_net.proofs.Least.{settled_is_least}
+use Rattle.squares_net.proofs.Infeasible.{always_feasible}
+use Rattle.squares_net.proofs.Start.{starts_empty}
+use Rattle.squares_net.proofs.Supply.{supplies_even, supplies_few}
+use Rattle.squares_net.proofs.IsSolution.{solved_is_least}
 use Rattle.unwrap.specs.Settled.{Crossed}
 
 units : (f : Field) (n : ℕ) (e : ℕ → ℤ) → n ≡ places f → ((v : ℕ) → v < n → e v ≡ supply_of f v) → sum_to n (λ v. up (e v)) ≡ sum_to (places f) (λ v. up (supply_of f v))
@@ -33,8 +33,8 @@ balanced_of f n e fit q few h = record {
   few = omega (arith, units f n e q h, (supplies_few f fit).0);
 }
 
-pub crossed_of : (f : Field) (g : Graph) (arc : ℕ → ℕ) (e : ℕ → ℤ) (s : State) (place : ℕ → ℕ) (r : Result (Unit {0}) Stuck) → Fit f → Built (squares_edges f) g arc → Laws g → g.nodes ≡ places f → places f ≤ 4096 →
-    ((v : ℕ) → v < g.nodes → e v ≡ supply_of f v) → Solved g e s place r → Crossed f arc s.flow
+pub crossed_of : (f : Field) (g : Graph) (arc : ℕ → ℕ) (e : ℕ → ℤ) (s : State) (place : ℕ → ℕ) (r : Result (Unit {0}) Infeasible) → Fit f → Represents (squares_edges f) g arc → IsNetwork g → g.nodes ≡ places f → places f ≤ 4096 →
+    ((v : ℕ) → v < g.nodes → e v ≡ supply_of f v) → IsSolution g e s place r → Crossed f arc s.flow
 unfolding squares_edges
 crossed_of f g arc e s place r fit b w nodes few given done = record {
   small = small_all;
@@ -60,8 +60,8 @@ pub sizes_few : (f : Field) (n : ℕ) (e : ℕ → ℤ) → Fit f → n ≡ plac
 sizes_few f n e fit q few h = omega (arith, ints, sizes n e, parts n e, (balanced_of f n e fit q few h).even, units f n e q h, (supplies_few f fit).0)
 
 -- the same of what is settled between trees
-pub crossed_met : (f : Field) (g : Graph) (arc : ℕ → ℕ) (e : ℕ → ℤ) (s : State) (place : ℕ → ℕ) (r : Result (Unit {0}) Stuck) → Fit f → Built (squares_edges f) g arc → Laws g → g.nodes ≡ places f → places f ≤ 4096 → ((v : ℕ) → v < g.nodes → e v ≡ supply_of f v) →
-    Met g e s place r → Crossed f arc s.flow
+pub crossed_met : (f : Field) (g : Graph) (arc : ℕ → ℕ) (e : ℕ → ℤ) (s : State) (place : ℕ → ℕ) (r : Result (Unit {0}) Infeasible) → Fit f → Represents (squares_edges f) g arc → IsNetwork g → g.nodes ≡ places f → places f ≤ 4096 → ((v : ℕ) → v < g.nodes → e v ≡ supply_of f v) →
+    IsContractedSolution g e s place r → Crossed f arc s.flow
 unfolding squares_edges
 crossed_met f g arc e s place r fit b w nodes few given done = record { small = λ i l. small (arc i) (b.within i l); least = by r done.answer }
   where
@@ -74,6 +74,6 @@ crossed_met f g arc e s place r fit b w nodes few given done = record { small = 
     room : (a : ℕ) → a < g.arcs → nat_abs (s.flow a) < 2 ^ 60
     room a l = omega (arith, small a l)
 
-    by : (r : Result (Unit {0}) Stuck) → Outcome g s place r → (t : Turns) → ((x y : ℕ) → x < f.wide → y < f.high → t x y ≡ turns_from f arc s.flow x y) → Least f t
+    by : (r : Result (Unit {0}) Infeasible) → Outcome g s place r → (t : Turns) → ((x y : ℕ) → x < f.wide → y < f.high → t x y ≡ turns_from f arc s.flow x y) → Least f t
     by (Ok _) none t agree = settled_is_least f g arc s t b w done.flows done.priced room (λ v l. omega (arith, ints, none v (omega (arith, l, nodes)), meets v l)) agree
-    by (Err stuck) full t agree = absurd (never_stuck f g arc s place stuck.nodes b w done.flows nodes meets room full)
+    by (Err stuck) full t agree = absurd (always_feasible f g arc s place stuck.nodes b w done.flows nodes meets room full)

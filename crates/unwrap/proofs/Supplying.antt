@@ -1,20 +1,21 @@
 -- What nodes supply, as a loop writes it.
-use Rattle.std.proofs.Common.{◌≡◌, ℕ, suc, pred, ◌+◌, ◌*◌, ◌/◌, ◌%◌, ◌<◌, ◌≤◌, List, length, set, ℤ, pos, ◌+ℤ◌, ◌*ℤ◌, neg_ℤ, nat_abs, sym, ap, ◌∙◌, subst, ap₂, ⊎_elim, arith, get_or-set_other, get_or-set_same}
+use Rattle.std.proofs.Common.{◌≡◌, ℕ, suc, pred, ◌+◌, ◌/◌, ◌%◌, ◌<◌, ◌≤◌, List, length, set, ℤ, pos, ◌+ℤ◌, neg_ℤ, nat_abs, sym, ap, ◌∙◌, subst, ap₂, ⊎_elim, arith, get_or-set_other, get_or-set_same}
 use Rattle.std.proofs.lemmas.Int.{ints}
 use Rattle.std.proofs.lemmas.Bool.{cases_eq}
 use Rattle.sums.specs.Sum.{sum_ℤ}
 use Rattle.sums.proofs.Loop.{sum_ℤ_none, sum_ℤ_more}
-use Rattle.grid.specs.Field.{Field, round}
-use Rattle.grid.specs.Promise.{Fit}
-use Rattle.network.specs.Node.{no_node, excess_of}
-use Rattle.network.specs.declared.node.Node.{Node}
-use Rattle.squares.specs.Squares.{places, square_supply, supply_of}
-use Rattle.squares.proofs.Squares.{Corner, corner_no, first_corner, first_column, first_row}
-use Rattle.squares.proofs.Supply.{off_turns, square_supply_corner, square_supply_none, square_supply_small, supply_first, supply_later}
-use Rattle.laws.specs.Cost.{off, turn_steps}
-use Rattle.grid.specs.Square.{HasSquare}
+use Rattle.phase_field.specs.Field.{Field}
+use Rattle.phase_field.specs.Field.{Fit}
+use Rattle.net_graph.specs.Node.{no_node, excess_of}
+use Rattle.net_graph.specs.declared.node.Node.{Node}
+use Rattle.squares_net.specs.Squares.{places, square_supply, supply_of}
+use Rattle.squares_net.proofs.Squares.{Corner, corner_no}
+use Rattle.squares_net.proofs.Supply.{square_supply_corner, square_supply_none, square_supply_small, supply_first, supply_later}
+use Rattle.phase_cost.specs.Steps.{residue, turn_steps, steps_in}
 use Rattle.std.proofs.lemmas.Nat.{mod_below}
+use Rattle.phase_turns.specs.Follow.{Expected}
 use Rattle.unwrap.proofs.Listing.{row_in}
+use Rattle.phase_turns.proofs.Expecting.{residue_expected}
 
 -- the first so many nodes have what their squares supply, and this is what they supply in all
 pub record Supplying (f : Field) (xs : List Node) (v : ℕ) (total : ℤ) : Type 0 where
@@ -44,23 +45,14 @@ supplying_all f xs n total outside node s e m p k o v l =
 pub corner_at : (f : Field) (v : ℕ) → 1 ≤ f.wide → v < places f → (v % f.wide ≡ 0 → ⊥) → (v / f.wide ≡ 0 → ⊥) → Corner f.wide f.high (v % f.wide) (v / f.wide)
 corner_at f v l k a b = record { x_some = omega arith; x_below = mod_below v f.wide l; y_some = omega arith; y_below = row_in f v l k }
 
--- and its square begins a row and a column before
-pub first_place : (f : Field) (v : ℕ) → Corner f.wide f.high (v % f.wide) (v / f.wide) → v ≡ suc ((pred (v / f.wide) * f.wide + pred (v % f.wide)) + f.wide)
-first_place f v c = first_corner f.wide f.high v c
-
-pub supply_from : (f : Field) (v p : ℕ) (k : ℤ) → Corner f.wide f.high (v % f.wide) (v / f.wide) → p ≡ pred (v / f.wide) * f.wide + pred (v % f.wide) → 1 ≤ f.turn →
-    round f (p % f.wide) (p / f.wide) ≡ k *ℤ pos f.turn → square_supply f v ≡ neg_ℤ k
-supply_from f v p k c e l r =
-    let column : p % f.wide ≡ pred (v % f.wide) = ap (λ (i : ℕ). i % f.wide) e ∙ first_column f.wide f.high v c in
-    let line : p / f.wide ≡ pred (v / f.wide) = ap (λ (i : ℕ). i / f.wide) e ∙ first_row f.wide f.high v c in
-    square_supply_corner f v c ∙ ap neg_ℤ (ap₂ (λ (i j : ℕ). off (turn_steps f) i j) (sym column) (sym line) ∙ off_turns f (p % f.wide) (p / f.wide) k l r)
+-- and what it supplies is the residue of the one that begins a row and a column before, the other way
+pub supply_from : (f : Field) (right below : List ℤ) (v x y : ℕ) (r : ℤ) → Corner f.wide f.high (v % f.wide) (v / f.wide) → Expected f right below → suc x ≡ v % f.wide → suc y ≡ v / f.wide →
+    r ≡ residue (steps_in f right below) x y → neg_ℤ r ≡ square_supply f v
+supply_from f right below v x y r c e p q s =
+    let column : x ≡ pred (v % f.wide) = ap pred p in
+    let line : y ≡ pred (v / f.wide) = ap pred q in
+    ap neg_ℤ (s ∙ residue_expected f right below e x y (omega (arith, c.x_below)) (omega (arith, c.y_below)) ∙ ap₂ (λ (i j : ℕ). residue (turn_steps f) i j) column line)
+    ∙ sym (square_supply_corner f v c)
 
 pub supply_edge : (f : Field) (v : ℕ) → ((0 < v % f.wide) → (0 < v / f.wide) → ⊥) → square_supply f v ≡ pos 0
 supply_edge f v n = square_supply_none f v (corner_no f.wide f.high (v % f.wide) (v / f.wide) (λ c. n c.x_some c.y_some))
-
--- the square is there
-pub square_there : (f : Field) (v p : ℕ) → Corner f.wide f.high (v % f.wide) (v / f.wide) → p ≡ pred (v / f.wide) * f.wide + pred (v % f.wide) → HasSquare f p
-square_there f v p c e =
-    let column : p % f.wide ≡ pred (v % f.wide) = ap (λ (i : ℕ). i % f.wide) e ∙ first_column f.wide f.high v c in
-    let line : p / f.wide ≡ pred (v / f.wide) = ap (λ (i : ℕ). i / f.wide) e ∙ first_row f.wide f.high v c in
-    (omega (arith, column, c.x_some, c.x_below), omega (arith, line, c.y_some, c.y_below))

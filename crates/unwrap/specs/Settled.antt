@@ -1,28 +1,29 @@
--- What the flow between the squares of a field leaves. Assumes nothing: these are definitions.
+-- What the flow between the squares of a field leaves.
 use Rattle.std.specs.Prelude.{◌≡◌, ℕ, ◌+◌, ◌<◌, ◌≤◌, List, length, ℤ, pos, ◌+ℤ◌, slice_index, slice_index_or, unsigned_abs}
-use Rattle.grid.specs.Field.{Field, Turns, turns_in}
-use Rattle.turns.specs.Follow.{StepsSmall}
-use Rattle.laws.specs.Cost.{Least, integral}
-use Rattle.network.specs.Graph.{Graph}
-use Rattle.edges.specs.Edges.{Built}
-use Rattle.edges.specs.Grouped.{FitEdges}
-use Rattle.edges.specs.Lists.{edges_of}
-use Rattle.forest.specs.Forest.{Forest}
-use Rattle.merged.specs.Crossing.{arc_in, root_in}
-use Rattle.merged.specs.Merged.{Merged, Unlimited}
-use Rattle.merged.specs.declared.trees.Trees.{Trees}
-use Rattle.squares.specs.Squares.{places, turns_from}
+use Rattle.phase_field.specs.Field.{Field, Turns, turns_in}
+use Rattle.phase_turns.specs.Follow.{StepsSmall}
+use Rattle.phase_cost.specs.Cost.{Least}
+use Rattle.phase_cost.specs.Steps.{integral}
+use Rattle.net_graph.specs.Graph.{Graph}
+use Rattle.net_build.specs.Edges.{Represents}
+use Rattle.net_build.specs.Grouped.{FitEdges}
+use Rattle.net_build.specs.Lists.{edges_of}
+use Rattle.net_forest.specs.Forest.{Forest}
+use Rattle.net_contract.specs.Crossing.{arc_in, root_in}
+use Rattle.net_contract.specs.Merged.{Merged, Unlimited}
+use Rattle.net_contract.specs.declared.trees.Contraction.{Contraction}
+use Rattle.squares_net.specs.Squares.{places, turns_from}
 
 -- the trees of a network: what is known of them before the edges between them are made a network
-pub record Planned (g : Graph) (t : Trees) : Type 0 where
-  pub forest : Forest g t.branches.now t.order.now
+pub record Planned (g : Graph) (t : Contraction) : Type 0 where
+  pub forest : Forest g t.tree_nodes.now t.order.now
   pub merged : Merged g.nodes (root_in t) (edges_of t.edges.now) (edges_of t.merged.now)
-  pub built : Built (edges_of t.edges.now) g (arc_in t)
+  pub built : Represents (edges_of t.edges.now) g (arc_in t)
   pub fit : FitEdges (edges_of t.edges.now) g.nodes
   pub unlimited : Unlimited g
   pub few_nodes : g.nodes ≤ 4096
   pub few_edges : length t.edges.now ≤ 8192
-  pub branches_len : length t.branches.now ≡ g.nodes
+  pub tree_nodes_len : length t.tree_nodes.now ≡ g.nodes
   pub order_len : length t.order.now ≡ g.nodes
   pub arcs_len : length t.arc_of.now ≡ length t.edges.now
 

@@ -2,12 +2,11 @@
 ghost use Rattle.std.specs.Prelude.{length};
 ghost use Rattle.unwrap.specs.Settled.{Added, Addable};
 
-// Adds to the first steps what goes across each, along the arcs of its edges.
+/// Adds to the first steps what goes across each, along the arcs of its edges.
 pub fn add_flows(arcs: &[usize], flow: &[i64], steps: &mut [i64])
     requires { Addable arcs.now flow.now steps.old }
     ensures { Added arcs.now flow.now steps.old steps.new }
 {
-    // Steps by number: over `steps.iter_mut().zip(arcs)` the proof did not close, since nothing is known of what such a loop has written.
     for (p, arc) in arcs.iter().enumerate() {
         steps[p] += flow[*arc];
     }

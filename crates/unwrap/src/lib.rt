@@ -1,11 +1,13 @@
-// Turns put back into a field.
+// Turns put back into a field: least-cost unwrapping of phase, each step priced (L1).
 #![tactic(auto)]
 
-ghost use Rattle.std.specs.Prelude.{◌≡◌, ◌*◌, length};
-ghost use Rattle.grid.specs.Field.{field_in};
-ghost use Rattle.grid.specs.Model.{field_of};
-ghost use Rattle.grid.specs.Verdict.{verdict};
-ghost use Rattle.unwrap.specs.Entry.{RefusedSays, BackSays, FirstSays, LeastSays, NothingSays, FoundSays, PutBack, IsAnswered};
+ghost use Rattle.std.specs.Prelude.{◌≡◌, ◌*◌, length, pos, slice_index_or, IfSome, IfNone};
+ghost use Rattle.phase_field.specs.Field.{turns_in};
+ghost use Rattle.phase_field.specs.Model.{field_of};
+ghost use Rattle.phase_input.specs.Input.{input, field_lent, verdict, number};
+ghost use Rattle.phase_cost.specs.Cost.{cost, Least, AllComeBack};
+ghost use Rattle.unwrap.specs.Promise.{FindsAgain};
+ghost use Rattle.unwrap.specs.declared.Done.TheVariants as done;
 
 mod cross;
 mod least;
@@ -15,43 +17,55 @@ mod supply;
 mod trees;
 
 use crate::least::least_steps;
-use grid::field::Field;
-use grid::verdict::Lent;
-use turns::cost::cost;
-use turns::follow::follow;
+use phase_field::field::Field;
+use phase_input::input::Input;
+use phase_input::take::take;
+use phase_turns::cost::cost;
+use phase_turns::follow::follow;
+use phase_turns::steps::Steps;
 
-// What the entry answers. An enum with the refusal's number and no Result: a rule of the project fixes the entry's form.
+/// What is answered.
 #[derive(Clone, Copy, PartialEq, Eq, Debug)]
 pub enum Done {
-    // What the turns cost.
+    /// What the turns cost.
     Back(u64),
-    // The number of the first reason for which it was turned away.
+    /// The number of the first reason for which it was refused.
     Refused(u64),
 }
 
-// Leaves turns that cost least, and tells what they cost.
-fn put_least(field: &Field, room: &mut [i64]) -> u64
+// The turns that are left in a room, and what is answered of them.
+fn write_least(field: &Field, room: &mut [i64]) -> u64
     requires { length room.old ≡ field.now.wide * field.now.high }
-    ensures { PutBack (field_of field.now) result room.new }
+    ensures cost { result ≡ cost (field_of field.now) (turns_in field.now.wide room.new) }
+    ensures first { slice_index_or room.new 0 (pos 0) ≡ pos 0 }
+    ensures least { Least (field_of field.now) (turns_in field.now.wide room.new) }
 {
-    let steps = least_steps(field);
-    follow(field.wide(), field.high(), &steps, room);
-    cost(field, room).unwrap()
+    let expected = Steps::expected(field);
+    let steps = least_steps(field, &expected);
+    follow(field.wide, field.high, &steps, room);
+    cost(field, &expected, room).unwrap()
 }
 
-// Takes a field and puts turns back, or turns it away with the room as it was. A length is told as a u64, for which the language has no
-// From.
-fn answer(lent: &Lent<'_, '_, '_>, room: &mut [i64]) -> Done
-    ensures { IsAnswered lent.now room.old result room.new }
+/// Leaves a whole number of turns for each place of the field in a room that has as many numbers, row by row, 0 for the first place, than
+/// which no turns cost less, and answers what they cost.
+pub fn unwrap_field(field: &Field, room: &mut [i64]) -> u64
+    requires { length room.old ≡ field.now.wide * field.now.high }
+    ensures cost { result ≡ cost (field_of field.now) (turns_in field.now.wide room.new) }
+    ensures first { slice_index_or room.new 0 (pos 0) ≡ pos 0 }
+    ensures least { Least (field_of field.now) (turns_in field.now.wide room.new) }
+    ensures nothing { AllComeBack (field_of field.now) → result ≡ 0 }
+    ensures found { FindsAgain (field_of field.now) (turns_in field.now.wide room.new) }
 {
-    match Field::take(lent, room.len() as u64) {
-        Err(refusal) => Done::Refused(refusal.number()),
-        Ok(field) => Done::Back(put_least(&field, room)),
-    }
+    write_least(field, room)
 }
 
-// Puts turns back: leaves a whole number of turns for each place in the room, row by row, 0 for the first place, than which no turns
-// cost less, and answers what they cost; or turns the field away.
+/// Puts turns back: leaves a whole number of turns for each place in the room, row by row, 0 for the first place, than which no turns
+/// cost less, and answers what they cost; or refuses what is lent by the number of the first reason that applies, and leaves the room as it
+/// was.
+///
+/// A field is 1 to 64 places `wide` and `high`, and a `turn`, a cycle of phase, has 2 to 65,536 units. The lists are row by row from the
+/// upper left: what was `seen` at each place, the wrapped phase, below a turn; and the prices, 1,000 at most, of the steps to the `right` of
+/// each place and `below` it, of which those beyond the edge don't count.
 pub fn put_back(
     wide: u64,
     high: u64,
@@ -61,23 +75,33 @@ pub fn put_back(
     below: &[u32],
     room: &mut [i64],
 ) -> Done
-    ensures refused { RefusedSays (verdict wide high turn seen.now right.now below.now (length room.old)) room.old result room.new }
-    ensures back { BackSays (verdict wide high turn seen.now right.now below.now (length room.old)) (field_in wide high turn seen.now right.now below.now) result room.new }
-    ensures first { FirstSays (verdict wide high turn seen.now right.now below.now (length room.old)) room.new }
+    ensures refused { let i = input wide high turn seen.now right.now below.now (length room.old) in
+        IfSome (verdict i) (λ why. result ≡ done.Refused (number why)) }
+    ensures same { let i = input wide high turn seen.now right.now below.now (length room.old) in
+        IfSome (verdict i) (λ _. room.new ≡ room.old) }
     ensures kept { length room.new ≡ length room.old }
-    ensures least { LeastSays (verdict wide high turn seen.now right.now below.now (length room.old)) (field_in wide high turn seen.now right.now below.now) room.new }
-    ensures nothing { NothingSays (verdict wide high turn seen.now right.now below.now (length room.old)) (field_in wide high turn seen.now right.now below.now) result }
-    ensures found { FoundSays (verdict wide high turn seen.now right.now below.now (length room.old)) (field_in wide high turn seen.now right.now below.now) room.new }
+
+    ensures back { let i = input wide high turn seen.now right.now below.now (length room.old) in
+        IfNone (verdict i) (result ≡ done.Back (cost (field_lent i) (turns_in wide room.new))) }
+    ensures first { let i = input wide high turn seen.now right.now below.now (length room.old) in
+        IfNone (verdict i) (slice_index_or room.new 0 (pos 0) ≡ pos 0) }
+    ensures least { let i = input wide high turn seen.now right.now below.now (length room.old) in
+        IfNone (verdict i) (Least (field_lent i) (turns_in wide room.new)) }
+    ensures nothing { let i = input wide high turn seen.now right.now below.now (length room.old) in
+        IfNone (verdict i) (AllComeBack (field_lent i) → result ≡ done.Back 0) }
+    ensures found { let i = input wide high turn seen.now right.now below.now (length room.old) in
+        IfNone (verdict i) (FindsAgain (field_lent i) (turns_in wide room.new)) }
 {
-    answer(
-        &Lent {
-            wide,
-            high,
-            turn,
-            seen,
-            right,
-            below,
-        },
-        room,
-    )
+    let input = Input {
+        wide,
+        high,
+        turn,
+        seen,
+        right,
+        below,
+    };
+    match take(&input, room.len() as u64) {
+        Err(refusal) => Done::Refused(refusal.number()),
+        Ok(field) => Done::Back(unwrap_field(&field, room)),
+    }
 }

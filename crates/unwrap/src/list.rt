@@ -1,14 +1,14 @@
 // The edges between the squares of a field.
 ghost use Rattle.std.specs.Prelude.{◌≡◌, ◌+◌, ◌%◌, ◌/◌, ◌<◌, ◌≤◌, length, pos};
-ghost use Rattle.grid.specs.Model.{field_of};
-ghost use Rattle.edges.specs.Lists.{edges_of};
-ghost use Rattle.squares.specs.Squares.{node, places, squares_edges};
+ghost use Rattle.phase_field.specs.Model.{field_of};
+ghost use Rattle.net_build.specs.Lists.{edges_of};
+ghost use Rattle.squares_net.specs.Squares.{node, places, squares_edges};
 ghost use Rattle.unwrap.specs.Listed.{AreSquares, Crosses, IsEdge};
 
-use edges::Edge;
-use grid::field::{Field, PLACES};
+use net_build::Edge;
+use phase_field::field::{Field, PLACES};
 
-// Two edges for each place, across the step to the right and the one down, and two arcs for each edge.
+/// Two edges for each place, across the step to the right and the one down, and two arcs for each edge.
 pub const EDGES: usize = 2 * PLACES;
 
 pub const ARCS: usize = 2 * EDGES;
@@ -37,21 +37,19 @@ fn crossing(from: usize, to: usize, price: u32) -> Edge
         from,
         to,
         cost: price,
-        back: price,
+        reverse_cost: price,
         limit: NO_LIMIT,
-        back_limit: NO_LIMIT,
+        reverse_limit: NO_LIMIT,
     }
 }
 
-// The edge across the step to the right from a place: from the square below the step to the one above. Its ends and its price are others
-// than those of an edge across a step down. What they share is `crossing`, and two divisions that say where the place lies: `grid` has them in a
-// function of its own, which answers an Option that would have to be unwrapped here.
+// The edge across the step to the right from a place: from the square below the step to the one above.
 fn edge_right(field: &Field, place: usize) -> Edge
     requires { place < places (field_of field.now) }
     ensures { IsEdge (squares_edges (field_of field.now)) place result }
 {
-    let wide = field.wide();
-    let high = field.high();
+    let wide = field.wide;
+    let high = field.high;
     let x = place % wide;
     let y = place / wide;
     let price = field.price_right(place).unwrap_or(0);
@@ -65,10 +63,11 @@ fn edge_right(field: &Field, place: usize) -> Edge
 // The edge across the step down from a place: from the square to the left of the step to the one to the right.
 fn edge_below(field: &Field, place: usize) -> Edge
     requires { place < places (field_of field.now) }
-    ensures { IsEdge (squares_edges (field_of field.now)) (places (field_of field.now) + place) result }
+    ensures { let f = field_of field.now in
+        IsEdge (squares_edges f) (places f + place) result }
 {
-    let wide = field.wide();
-    let high = field.high();
+    let wide = field.wide;
+    let high = field.high;
     let x = place % wide;
     let y = place / wide;
     let price = field.price_below(place).unwrap_or(0);
@@ -79,8 +78,8 @@ fn edge_below(field: &Field, place: usize) -> Edge
     )
 }
 
-// Lists the edges between the squares of a field: those across steps to the right, an edge for each place, and those across steps
-// down behind them.
+/// Lists the edges between the squares of a field: those across steps to the right, an edge for each place, and those across steps
+/// down behind them.
 pub fn list_edges(field: &Field, edges: &mut [Edge])
     requires { length edges.old ≡ places (field_of field.now) + places (field_of field.now) }
     ensures { AreSquares (field_of field.now) (edges_of edges.new) }

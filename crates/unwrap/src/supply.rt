@@ -1,47 +1,54 @@
 // What the nodes of the network between squares supply.
-ghost use Rattle.std.specs.Prelude.{◌≡◌, ℕ, ◌<◌, length, neg_ℤ};
-ghost use Rattle.grid.specs.Model.{field_of};
-ghost use Rattle.grid.specs.Square.{off_by};
-ghost use Rattle.network.specs.Node.{excess_of};
-ghost use Rattle.squares.specs.Squares.{places, square_supply, supply_of};
+ghost use Rattle.std.specs.Prelude.{◌≡◌, ℕ, ◌<◌, length};
+ghost use Rattle.phase_field.specs.Model.{field_of};
+ghost use Rattle.phase_turns.specs.Follow.{Expected};
+ghost use Rattle.net_graph.specs.Network.{graph};
+ghost use Rattle.net_graph.specs.Node.{excess_of};
+ghost use Rattle.net_graph.specs.Sound.{state};
+ghost use Rattle.net_solve.specs.Promise.{SameFlow};
+ghost use Rattle.squares_net.specs.Squares.{places, square_supply, supply_of};
 
-use grid::field::Field;
-use grid::square::Off;
-use network::Node;
+use net_graph::{Flow, Node};
+use phase_field::field::Field;
+use phase_turns::residue::residue;
+use phase_turns::steps::Steps;
 
-// A square that is off by a turn more lacks a unit, and one that is off by a turn less has one. A match, as the specification has it: an
-// `Off` with numbers of its own would say what no other crate needs.
-fn units(off: Off) -> i64
-    ensures { result ≡ neg_ℤ (off_by off) }
-{
-    match off {
-        Off::Less => 1,
-        Off::Back => 0,
-        Off::More => -1,
-    }
-}
-
-// What the square that has the number v supplies; 0 where there is none.
-fn square_supply(field: &Field, v: usize) -> i64
-    requires { v < places (field_of field.now) }
+// What the square that has the number v supplies: its residue, the other way; 0 where there is none.
+fn square_supply(field: &Field, expected: &Steps, v: usize) -> i64
+    requires place { v < places (field_of field.now) }
+    requires expected { Expected (field_of field.now) expected.now.right expected.now.below }
     ensures { result ≡ square_supply (field_of field.now) v }
 {
-    let wide = field.wide();
-    if v % wide == 0 || v / wide == 0 {
+    let x = v % field.wide;
+    let y = v / field.wide;
+    if x == 0 || y == 0 {
         return 0;
     }
-    units(field.square(v - wide - 1).unwrap())
+    -residue(field, expected, x - 1, y - 1)
 }
 
-// Gives each node what it supplies: each square what it is off by, and the outside what makes up for all of them.
-pub fn supplies(field: &Field, nodes: &mut [Node])
-    requires { length nodes.old ≡ places (field_of field.now) }
-    ensures { (v : ℕ) → v < places (field_of field.now) → excess_of nodes.new v ≡ supply_of (field_of field.now) v }
+// Gives each node what it supplies: each square what makes up for its residue, and the outside what makes up for all of them.
+fn supplies(field: &Field, expected: &Steps, nodes: &mut [Node])
+    requires expected { Expected (field_of field.now) expected.now.right expected.now.below }
+    requires nodes { length nodes.old ≡ places (field_of field.now) }
+    ensures { (v : ℕ) → v < places (field_of field.now) →
+        excess_of nodes.new v ≡ supply_of (field_of field.now) v }
 {
     let mut total = 0;
     for (v, node) in nodes.iter_mut().enumerate() {
-        node.excess = square_supply(field, v);
+        node.excess = square_supply(field, expected, v);
         total += node.excess;
     }
     nodes[0].excess = -total;
+}
+
+/// The same in a flow between squares.
+pub fn supply_flow(field: &Field, expected: &Steps, flow: &mut Flow)
+    requires expected { Expected (field_of field.now) expected.now.right expected.now.below }
+    requires nodes { (graph flow.old.net).nodes ≡ places (field_of field.now) }
+    ensures same { SameFlow flow.old flow.new }
+    ensures supplied { (v : ℕ) → v < places (field_of field.now) →
+        (state flow.new).excess v ≡ supply_of (field_of field.now) v }
+{
+    supplies(field, expected, flow.nodes);
 }

@@ -1,15 +1,16 @@
-use Rattle.unwrap.proofs.Saying.{says_refused, says_back, says_first, says_least, says_nothing, says_found}
+use Rattle.std.proofs.Common.{◌≡◌, ap, subst}
+use Rattle.phase_field.specs.Field.{Field, turns_in}
+use Rattle.phase_cost.specs.Cost.{AllComeBack}
+use Rattle.unwrap.specs.Promise.{FindsAgain}
+use Rattle.unwrap.specs.declared.Done.TheVariants as done
+use Rattle.unwrap.proofs.Promising.{if_none}
 use Rattle.unwrap.proofs.put_back.Goals as goal
 
-pub returns : goal.returns
-returns c =
-    let a = c.args in
-    record {
-      refused = says_refused a.wide a.high a.turn a.seen.now a.right.now a.below.now a.room.now c.answer.result c.answer.new.room c.answer.ensures;
-      back = says_back a.wide a.high a.turn a.seen.now a.right.now a.below.now a.room.now c.answer.result c.answer.new.room c.answer.ensures;
-      first = says_first a.wide a.high a.turn a.seen.now a.right.now a.below.now a.room.now c.answer.result c.answer.new.room c.answer.ensures;
-      kept = c.answer.auto.room;
-      least = says_least a.wide a.high a.turn a.seen.now a.right.now a.below.now a.room.now c.answer.result c.answer.new.room c.answer.ensures;
-      nothing = says_nothing a.wide a.high a.turn a.seen.now a.right.now a.below.now a.room.now c.answer.result c.answer.new.room c.answer.ensures;
-      found = says_found a.wide a.high a.turn a.seen.now a.right.now a.below.now a.room.now c.answer.result c.answer.new.room c.answer.ensures;
-    }
+pub returns-in-Ok-clause-nothing : goal.returns-in-Ok-clause-nothing
+returns-in-Ok-clause-nothing c =
+    let told = c.unwrap_field.result in
+    if_none _ _ (subst (λ (f : Field). AllComeBack f → done.Back told ≡ done.Back 0) c.in-Ok.ensures.holds (λ back. ap done.Back (c.unwrap_field.ensures.nothing back)))
+
+pub returns-in-Ok-clause-found : goal.returns-in-Ok-clause-found
+returns-in-Ok-clause-found c =
+    if_none _ _ (subst (λ (f : Field). FindsAgain f (turns_in f.wide c.unwrap_field.new.room)) c.in-Ok.ensures.holds c.unwrap_field.ensures.found)

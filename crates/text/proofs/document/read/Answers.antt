@@ -1,8 +1,8 @@
-use Rattle.std.proofs.Common.{◌≡◌, ◌∷◌, ◌∙◌, ◌+◌, ◌≤◌, sym, ap, length, arith, rules, inl}
+use Rattle.std.proofs.Common.{◌≡◌, ◌∷◌, ◌∙◌, ◌+◌, ◌≤◌, ap, length, arith, rules, inl}
 use Rattle.std.proofs.lemmas.Result.{err_from_is_err_and}
 use Rattle.text.specs.Pieces.{lines}
 use Rattle.text.specs.Draft.{notes}
-use Rattle.text.specs.Document.{contents, stopped_at}
+use Rattle.text.specs.Document.{contents}
 use Rattle.text.specs.declared.pieces.Mark.TheVariants.{Newline}
 use Rattle.text.proofs.Cuts.{length_pieces}
 use Rattle.text.proofs.Reader.{read_ends, read_more, told_stops, told_more}

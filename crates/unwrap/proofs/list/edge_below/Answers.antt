@@ -1,7 +1,7 @@
 use Rattle.std.proofs.Common.{◌≡◌, ◌+◌, ◌/◌, ◌%◌, ◌∙◌}
-use Rattle.grid.specs.Model.{field_of}
-use Rattle.grid.proofs.Told.{told_or}
-use Rattle.squares.specs.Squares.{node}
+use Rattle.phase_field.specs.Model.{field_of}
+use Rattle.phase_field.proofs.Told.{told_or}
+use Rattle.squares_net.specs.Squares.{node}
 use Rattle.unwrap.proofs.Listing.{row_in, edge_is, crosses_at, joins_below}
 use Rattle.unwrap.proofs.list.edge_below.Goals as goal
 
@@ -9,8 +9,6 @@ pub returns : goal.returns
 returns c =
     let f = c.args.field.now in
     let p = c.args.place in
-    let w = c.wide-wide.ensures in
-    let h = c.high-high.ensures in
     let a = c.node.ensures in
     let b = c.node-2.ensures in
     let from : c.node.result ≡ node f.wide f.high (p % f.wide) (p / f.wide + 1) = cc in

@@ -1,7 +1,7 @@
 use Rattle.std.proofs.Common.{◌≡◌, ◌+◌, ◌-◌, subst, sym, ◌∙◌, ℕ, arith}
-use Rattle.grid.specs.Model.{field_of}
-use Rattle.squares.specs.Squares.{places, squares_edges}
-use Rattle.edges.specs.declared.edge.Edge.{Edge}
+use Rattle.phase_field.specs.Model.{field_of}
+use Rattle.squares_net.specs.Squares.{places, squares_edges}
+use Rattle.net_build.specs.declared.edge.Edge.{Edge}
 use Rattle.unwrap.specs.Listed.{IsEdge}
 use Rattle.unwrap.proofs.Listing.{listed_more, listed_all}
 use Rattle.unwrap.proofs.list.list_edges.Goals as goal

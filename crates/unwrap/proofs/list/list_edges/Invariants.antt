@@ -1,4 +1,4 @@
-use Rattle.grid.specs.Model.{field_of}
+use Rattle.phase_field.specs.Model.{field_of}
 use Rattle.unwrap.proofs.Listing.{ListedTo}
 use Rattle.unwrap.proofs.list.list_edges.Given as goal
 

@@ -1,5 +1,5 @@
 use Rattle.std.proofs.Common.{sym, arith}
-use Rattle.squares.proofs.Squares.{node_in, node_out}
+use Rattle.squares_net.proofs.Squares.{node_in, node_out}
 use Rattle.unwrap.proofs.list.node.Goals as goal
 
 pub returns-then-x-eq0 : goal.returns-then-x-eq0

@@ -1,7 +1,7 @@
 use Rattle.std.proofs.Common.{◌≡◌, length, refl, arith}
 use Rattle.std.proofs.lemmas.Int.{ints}
-use Rattle.grid.specs.Model.{field_of}
-use Rattle.squares.proofs.Supply.{square_supply_small}
+use Rattle.phase_field.specs.Model.{field_of}
+use Rattle.squares_net.proofs.Supply.{square_supply_small}
 use Rattle.unwrap.proofs.Fitting.{field_fit, some_places, few_places}
 use Rattle.unwrap.proofs.Supplying.{supplying_none, supplying_more, supplying_all}
 use Rattle.unwrap.proofs.supply.supplies.Goals as goal

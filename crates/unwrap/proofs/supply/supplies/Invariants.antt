@@ -1,4 +1,4 @@
-use Rattle.grid.specs.Model.{field_of}
+use Rattle.phase_field.specs.Model.{field_of}
 use Rattle.unwrap.proofs.Supplying.{Supplying}
 use Rattle.unwrap.proofs.supply.supplies.Given as goal
 

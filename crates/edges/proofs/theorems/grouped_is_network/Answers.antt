@@ -1,5 +1,0 @@
-use Rattle.edges.proofs.Grouping.{grouped_is_network}
-use Rattle.edges.proofs.theorems.grouped_is_network.Goals as goal
-
-pub returns : goal.returns
-returns c = grouped_is_network

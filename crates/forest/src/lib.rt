@@ -1,8 +1,0 @@
-// Trees of arcs that cost nothing.
-#![tactic(auto)]
-
-mod branch;
-mod trees;
-
-pub use branch::Branch;
-pub use trees::grow;

@@ -1,2 +1,0 @@
-pub mod Partial
-pub mod All

@@ -1,5 +1,0 @@
-use Rattle.std.proofs.Common.{rules, arith}
-use Rattle.formed.proofs.Lists.rises.Goals as goal
-
-pub returns-else-is_sorted : goal.returns-else-is_sorted
-returns-else-is_sorted c = (λ t. search rules, λ r. let b = c.if-is_sorted.ensures.by_index in absurd (grind (arith, r.rises b.0 (omega (arith, b.1)), b.2 0)))

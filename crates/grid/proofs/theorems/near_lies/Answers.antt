@@ -1,6 +1,0 @@
--- What is expected of a difference of less than a turn lies within half a turn.
-use Rattle.grid.proofs.Near.{near_lies}
-use Rattle.grid.proofs.theorems.near_lies.Goals as goal
-
-pub returns : goal.returns
-returns c = near_lies

@@ -1,6 +1,0 @@
--- Only one number within half a turn differs from what is expected by whole turns.
-use Rattle.grid.proofs.Near.{near_unique}
-use Rattle.grid.proofs.theorems.near_unique.Goals as goal
-
-pub returns : goal.returns
-returns c = near_unique

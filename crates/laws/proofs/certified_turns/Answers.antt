@@ -1,6 +1,0 @@
--- Turns of a field that reach the value cost least.
-use Rattle.laws.proofs.Certificate.{certified_turns}
-use Rattle.laws.proofs.certified_turns.Goals as goal
-
-pub returns : goal.returns
-returns c = certified_turns

@@ -1,0 +1,4 @@
+pub mod Label
+pub mod Tree
+pub mod Inner
+pub mod Path

@@ -1,4 +1,0 @@
-pub mod Graph
-pub mod Network
-pub mod Node
-pub mod Sound

@@ -1,6 +1,0 @@
--- What a network says.
-use Rattle.network.specs.Graph.{Graph, graph_of}
-use Rattle.network.specs.declared.network.Network.{Network}
-
-abbrev pub graph : Network → Graph
-graph n = graph_of n.first.now n.arcs.now

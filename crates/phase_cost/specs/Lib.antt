@@ -1,0 +1,4 @@
+pub mod Cost
+pub mod Steps
+pub mod Certificate
+pub mod Theorems

@@ -1,0 +1,3 @@
+pub mod Near
+pub mod Parts
+pub mod Told

@@ -1,0 +1,3 @@
+pub mod Field
+pub mod Model
+pub mod Theorems

@@ -1,0 +1,28 @@
+-- Steps in whole turns, and numbers that follow them.
+use Rattle.std.specs.Prelude.{◌≡◌, ℕ, ◌*◌, ◌<◌, ◌≤◌, List, length, ℤ, pos, ◌+ℤ◌, slice_index_or, unsigned_abs}
+use Rattle.sums.specs.Sum.{sum_ℤ}
+use Rattle.phase_field.specs.Field.{Field, turns_in}
+use Rattle.phase_field.specs.Model.{HasRight, HasBelow, turns_right_from, turns_below_from}
+use Rattle.phase_cost.specs.Steps.{integral}
+
+-- a list of steps, none of more turns than are followed: twice as many as a field has places, and one that is expected
+abbrev pub StepsSmall : List ℤ → Type 0
+StepsSmall ds = (k : ℕ) → unsigned_abs (slice_index_or ds k (pos 0)) ≤ 8193
+
+-- a row that follows steps from its first number on
+pub record Follows (start : ℤ) (ds us : List ℤ) : Type 0 where
+  pub at : (x : ℕ) → x < length us → slice_index_or us x (pos 0) ≡ start +ℤ sum_ℤ x (λ i. slice_index_or ds i (pos 0))
+
+-- a room that follows steps down its first column and along each row
+pub record Integrated (wide high : ℕ) (right below room : List ℤ) : Type 0 where
+  pub at : (x y : ℕ) → x < wide → y < high → turns_in wide room x y ≡ integral (turns_in wide right) (turns_in wide below) x y
+  pub small : (k : ℕ) → k < wide * high → unsigned_abs (slice_index_or room k (pos 0)) ≤ 1032318
+
+-- the steps that one expects of a field, in turns, and 0 where there are none
+pub record Expected (f : Field) (right below : List ℤ) : Type 0 where
+  pub right_at : (p : ℕ) → HasRight f p → slice_index_or right p (pos 0) ≡ turns_right_from f p
+  pub below_at : (p : ℕ) → HasBelow f p → slice_index_or below p (pos 0) ≡ turns_below_from f p
+  pub right_none : (p : ℕ) → (HasRight f p → ⊥) → slice_index_or right p (pos 0) ≡ pos 0
+  pub below_none : (p : ℕ) → (HasBelow f p → ⊥) → slice_index_or below p (pos 0) ≡ pos 0
+  pub right_small : (p : ℕ) → unsigned_abs (slice_index_or right p (pos 0)) ≤ 1
+  pub below_small : (p : ℕ) → unsigned_abs (slice_index_or below p (pos 0)) ≤ 1

@@ -1,0 +1,19 @@
+-- What is seen of a field into which turns were put back.
+use Rattle.std.specs.Prelude.{◌<◌, List, ℤ}
+use Rattle.phase_field.specs.declared.field.Field.{Field as code}
+use Rattle.phase_field.specs.Model.{field_of}
+use Rattle.brute_force.specs.Tried.{Agrees}
+use Rattle.unwrap.specs.declared.Done.{Done}
+use Rattle.unwrap.specs.declared.Done.TheVariants.{Back, Refused}
+use Rattle.test_random.specs.declared.trial.Trial.{Trial}
+use Rattle.test_random.specs.Drawn.{Lends}
+
+-- something was put back into the field that the trial lends, and trying agrees with it
+abbrev pub Agreed : Trial → Done → (room : List ℤ) → Type 0
+Agreed t (Back c) room = (f : code) × Lends t f × Agrees (field_of f) room c
+Agreed t (Refused n) room = ⊥
+
+-- something was put back, and costs more than nothing
+abbrev pub Costs : Done → Type 0
+Costs (Back c) = 0 < c
+Costs (Refused n) = ⊥

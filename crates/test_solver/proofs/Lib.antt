@@ -1,0 +1,4 @@
+pub mod Partial
+pub mod All
+pub mod LentSlices
+pub mod BalancedSupplies

@@ -1,7 +1,0 @@
-use Rattle.grid.specs.Model.{field_of}
-use Rattle.laws.specs.Cost.{cost}
-use Rattle.trying.specs.Tried.{LeastOf, turns_of}
-use Rattle.trying.proofs.least_of.Given as goal
-
-abbrev pub invariant-loop-code : goal.invariant-loop-code
-invariant-loop-code l = LeastOf (λ k. cost (field_of l.field) (turns_of l.field.wide k)) l.code l.least

@@ -1,5 +1,0 @@
-use Rattle.turns.proofs.Following.{Following}
-use Rattle.turns.proofs.follow.follow_row.Given as goal
-
-abbrev pub invariant-loop-x : goal.invariant-loop-x
-invariant-loop-x l = Following l.start l.steps l.row l.x l.at

@@ -1,4 +1,0 @@
-pub mod Rows
-pub mod Parts
-pub mod Follow
-pub mod Place

@@ -1,5 +1,0 @@
-pub mod Listed
-pub mod Steps
-pub mod Reach
-pub mod Potentials
-pub mod Walk

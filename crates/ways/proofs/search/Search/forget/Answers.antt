@@ -1,7 +1,0 @@
-use Rattle.std.proofs.Common.{length, rules}
-use Rattle.ways.proofs.Listed.{blank_listed}
-use Rattle.ways.proofs.search.Search.forget.Goals as goal
-
-pub invariant_of-self-clause-listed : goal.invariant_of-self-clause-listed
-invariant_of-self-clause-listed c =
-    rw (c.forget.ensures.reached, c.forget.ensures.waiting) (blank_listed _ (length c.args.self.now.order.now) c.forget.new.marks _ _ (search rules) c.forget.ensures.blank)
