@@ -1,1 +1,1 @@
-pub mod Options
+pub mod Ask

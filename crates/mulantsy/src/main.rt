@@ -1,20 +1,27 @@
 // Puts whole turns back into a field of numbers that were seen without them, from a text to a text.
 #![tactic(auto)]
 
-mod options;
+mod ask;
+mod command;
+mod said;
 
-use report::{Form, View, answer_to_text};
-use anyhow::anyhow;
-use options::{USAGE, Word, word_of};
-use std::io::Read;
+use ask::Ask;
+use clap::ArgMatches;
+use command::command;
+use report::answer_to_text;
+use report::unanswered::Unanswered;
+use said::{place_line, refusal_json};
+use std::io::{ErrorKind, Read, Write};
 use std::process::ExitCode;
 use std::{env, fs, io};
-use text::document::Unread;
+
+// Not understood, or not to be had.
+const NOT_HAD: u8 = 2;
 
 // The bytes of a file, or of standard input where none is named.
-fn bytes_of(rt: &HostRuntime, file: Option<String>) -> io::Result<Vec<u8>> {
+fn bytes_of(rt: &HostRuntime, file: Option<&str>) -> io::Result<Vec<u8>> {
     match file {
-        Some(path) => fs::read(rt, path.as_str()),
+        Some(path) => fs::read(rt, path),
         None => {
             let mut bytes = Vec::new(rt.alloc());
             rt.stdin().read_to_end(&mut bytes)?;
@@ -23,60 +30,89 @@ fn bytes_of(rt: &HostRuntime, file: Option<String>) -> io::Result<Vec<u8>> {
     }
 }
 
-// Says that a word was not understood.
-fn turn_away(rt: &HostRuntime, word: &str) -> anyhow::Result<ExitCode> {
-    eprintln!(rt; "mulantsy: {word}: an unknown option or a second file")?;
-    eprint!(rt; "{USAGE}")?;
-    Ok(ExitCode::FAILURE)
+// Says why something named isn't to be had.
+fn not_had(rt: &HostRuntime, name: &str, error: io::Error) -> io::Result<ExitCode> {
+    eprintln!(rt; "mulantsy: {name}: {error}")?;
+    Ok(ExitCode::from(NOT_HAD))
 }
 
-// Prints what is asked of a file, or why it is turned away.
-fn show(rt: &HostRuntime, view: View, file: Option<String>) -> anyhow::Result<ExitCode> {
-    let bytes = bytes_of(rt, file)?;
-    match answer_to_text(rt.alloc(), bytes.as_slice(), view) {
-        Ok(text) => {
-            print!(rt; "{text}")?;
-            Ok(ExitCode::SUCCESS)
-        }
-        Err(Unread::Refused(refusal)) => {
-            eprintln!(rt; "{refusal}")?;
-            Ok(ExitCode::FAILURE)
-        }
-        Err(Unread::Memory) => Err(anyhow!("out of memory")),
+// A mistyped command is taken for a file.
+fn no_file(rt: &HostRuntime, name: &str, error: io::Error) -> io::Result<ExitCode> {
+    let missing = error.kind() == ErrorKind::NotFound;
+    let status = not_had(rt, name, error)?;
+    if missing {
+        eprintln!(rt; "mulantsy: commands are: unwrap")?;
+    }
+    Ok(status)
+}
+
+// Writes a text to where it is asked for.
+fn write_text(rt: &HostRuntime, output: Option<&str>, text: &str) -> io::Result<()> {
+    match output {
+        Some(path) => fs::write(rt, path, text),
+        None => rt.stdout().write_all(text.as_bytes()),
+    }
+}
+
+fn deliver(rt: &HostRuntime, ask: Ask<'_>, text: &str, status: u8) -> io::Result<ExitCode> {
+    match write_text(rt, ask.output, text) {
+        Ok(()) => Ok(ExitCode::from(status)),
+        Err(error) => not_had(rt, ask.output.unwrap_or("standard output"), error),
+    }
+}
+
+// Says why there is no answer.
+fn turn_away(rt: &HostRuntime, ask: Ask<'_>, text: &[u8], why: Unanswered) -> io::Result<ExitCode> {
+    let name = ask.file.unwrap_or("-");
+    let Some(refusal) = why.refusal() else {
+        return not_had(rt, name, io::Error::from(ErrorKind::OutOfMemory));
+    };
+    if ask.is_json() {
+        let said = refusal_json(rt.alloc(), text, refusal, why)?;
+        return deliver(rt, ask, said.as_str(), 1);
+    }
+    eprintln!(rt; "{refusal}")?;
+    if let Some(place) = place_line(rt.alloc(), name, text, why)? {
+        eprintln!(rt; "{place}")?;
+    }
+    Ok(ExitCode::from(1))
+}
+
+// Does what is asked for.
+fn show(rt: &HostRuntime, ask: Ask<'_>) -> io::Result<ExitCode> {
+    let bytes = match bytes_of(rt, ask.file) {
+        Ok(bytes) => bytes,
+        Err(error) => return no_file(rt, ask.file.unwrap_or("-"), error),
+    };
+    match answer_to_text(rt.alloc(), bytes.as_slice(), ask.view) {
+        Ok(text) => deliver(rt, ask, text.as_str(), 0),
+        Err(why) => turn_away(rt, ask, bytes.as_slice(), why),
+    }
+}
+
+fn asked<'a>(matches: &ArgMatches<'a>) -> Ask<'a> {
+    match matches.subcommand() {
+        Some((_unwrap, options)) => Ask::of(options),
+        None => Ask::of(matches),
     }
 }
 
 // Does what the command line asks for.
-fn run(rt: &HostRuntime) -> anyhow::Result<ExitCode> {
-    let mut view = View::Heights(Form::Rows);
-    let mut file: Option<String> = None;
-    for word in env::args(rt)?.skip(1) {
-        match word_of(word.as_str()) {
-            Word::Help => {
-                print!(rt; "{USAGE}")?;
-                return Ok(ExitCode::SUCCESS);
-            }
-            Word::Version => {
-                println!(rt; "mulantsy 0.1.0")?;
-                return Ok(ExitCode::SUCCESS);
-            }
-            Word::Picture => view = View::Heights(Form::Picture),
-            Word::Rings => view = View::Rings,
-            Word::Unknown => return turn_away(rt, word.as_str()),
-            Word::File => {
-                if file.is_some() {
-                    return turn_away(rt, word.as_str());
-                }
-                file = Some(word);
-            }
+fn run(rt: &HostRuntime) -> io::Result<ExitCode> {
+    let alloc = rt.alloc();
+    let words: Vec<String> = env::args(rt)?.collect(alloc)?;
+    match command(alloc)?.try_get_matches_from(words.as_slice()) {
+        Ok(matches) => show(rt, asked(&matches)),
+        Err(error) => {
+            error.print(rt)?;
+            Ok(ExitCode::from(error.exit_code() as u8))
         }
     }
-    show(rt, view, file)
 }
 
-fn main(rt: HostRuntime) -> anyhow::Result<ExitCode> {
-    run(&rt).or_else(|e| {
-        eprintln!(rt; "mulantsy: {e}")?;
-        Ok(ExitCode::FAILURE)
+fn main(rt: HostRuntime) -> io::Result<ExitCode> {
+    run(&rt).or_else(|error| {
+        eprintln!(rt; "mulantsy: {error}")?;
+        Ok(ExitCode::from(NOT_HAD))
     })
 }

@@ -6,7 +6,7 @@ use Rattle.sums.proofs.Sum.{sum_change, sum_ext, sum_const, member_le_sum, sum_z
 use Rattle.net_graph.specs.Graph.{Graph, IsNetwork}
 use Rattle.net_graph.proofs.Points.{head_pair}
 use Rattle.net_graph.specs.Order.{node_at}
-use Rattle.net_forest.specs.Forest.{root_of, pred_of, place_of, no_tree_node, unfound, HasParent, Free, Within, Closed, Single, Kept, Growing, Grows, Forest, Added}
+use Rattle.net_forest.specs.Forest.{root_of, pred_of, place_of, no_tree_node, unfound, HasParent, Free, Within, Closed, Single, Kept, Growing, Grows, Forest, NodeAdded}
 use Rattle.net_forest.specs.declared.tree_node.TreeNode.{TreeNode}
 
 unfound_no : (n p : ℕ) → p < n → unfound n p ≡ 0
@@ -48,8 +48,8 @@ pub record Leads (g : Graph) (root place : ℕ → ℕ) (found a v r : ℕ) : Ty
 
 -- node v is found, as a root or by an arc
 module _ (g : Graph) (w : IsNetwork g) (root pred place order root' pred' place' order' : ℕ → ℕ) (found found' v r a : ℕ) (i : Growing g root pred place order found) (h : v < g.nodes) (new : found ≤ place v)
-    (root_here : root' v ≡ r) (via_here : pred' v ≡ a) (place_here : place' v ≡ found)
-    (root_kept : (u : ℕ) → (u ≡ v → ⊥) → root' u ≡ root u) (via_kept : (u : ℕ) → (u ≡ v → ⊥) → pred' u ≡ pred u) (place_kept : (u : ℕ) → (u ≡ v → ⊥) → place' u ≡ place u)
+    (root_here : root' v ≡ r) (pred_here : pred' v ≡ a) (place_here : place' v ≡ found)
+    (root_kept : (u : ℕ) → (u ≡ v → ⊥) → root' u ≡ root u) (pred_kept : (u : ℕ) → (u ≡ v → ⊥) → pred' u ≡ pred u) (place_kept : (u : ℕ) → (u ≡ v → ⊥) → place' u ≡ place u)
     (last : order' found ≡ v) (before : (k : ℕ) → (k ≡ found → ⊥) → order' k ≡ order k) (more : found' ≡ found + 1) (by : (r ≡ v) ⊎ Leads g root place found a v r) where
   more_unfound : found < g.nodes
   more_unfound = unfound_left g root pred place order found i v h new
@@ -84,16 +84,16 @@ module _ (g : Graph) (w : IsNetwork g) (root pred place order root' pred' place'
     | inl e ↦ elim by [
       | inl q ↦ absurd (n (ap root' e ∙ (root_here ∙ (q ∙ sym e))))
       | inr q ↦ rw e (record {
-        arc = rw via_here q.arc;
-        ends = rw via_here q.ends;
-        free = rw via_here q.free;
-        free_back = rw via_here q.free_back;
-        earlier = rw via_here (omega (arith, same_place (g.tail a) q.from, place_here, q.from));
-        same = rw via_here (same_root (g.tail a) q.from ∙ (q.same ∙ sym root_here));
+        arc = rw pred_here q.arc;
+        ends = rw pred_here q.ends;
+        free = rw pred_here q.free;
+        free_back = rw pred_here q.free_back;
+        earlier = rw pred_here (omega (arith, same_place (g.tail a) q.from, place_here, q.from));
+        same = rw pred_here (same_root (g.tail a) q.from ∙ (q.same ∙ sym root_here));
       })
     ]
     | inr x ↦ (let H = i.hangs u l (was u l p x) (λ e. n (root_kept u x ∙ e)) in
-        let V = via_kept u x in
+        let V = pred_kept u x in
         let t : place (g.tail (pred u)) < found = omega (arith, H.earlier, was u l p x) in
         record {
           arc = rw V H.arc;
@@ -157,7 +157,7 @@ module _ (g : Graph) (w : IsNetwork g) (root pred place order root' pred' place'
 
 -- the same of lists
 pub added_grows : (g : Graph) → IsNetwork g → (tree_nodes tree_nodes' : List TreeNode) (order order' : List ℕ) (found found' v : ℕ) (node : TreeNode) → Grows g tree_nodes order found → v < g.nodes → found ≤ place_of tree_nodes v →
-    node.place ≡ found → (node.root ≡ v) ⊎ Leads g (root_of tree_nodes) (place_of tree_nodes) found node.pred v node.root → Added tree_nodes tree_nodes' order order' found found' v node → Grows g tree_nodes' order' found'
+    node.place ≡ found → (node.root ≡ v) ⊎ Leads g (root_of tree_nodes) (place_of tree_nodes) found node.pred v node.root → NodeAdded tree_nodes tree_nodes' order order' found found' v node → Grows g tree_nodes' order' found'
 added_grows g w tree_nodes tree_nodes' order order' found found' v node i h new at by a =
     one_found g w (root_of tree_nodes) (pred_of tree_nodes) (place_of tree_nodes) (node_at order) (root_of tree_nodes') (pred_of tree_nodes') (place_of tree_nodes') (node_at order') found found' v node.root node.pred i h new
     (ap (λ (b : TreeNode). b.root) (a.here no_tree_node)) (ap (λ (b : TreeNode). b.pred) (a.here no_tree_node)) (ap (λ (b : TreeNode). b.place) (a.here no_tree_node) ∙ at)
@@ -187,7 +187,7 @@ kept_more g b b' b'' o o' o'' f f' f'' i j k m =
       root = λ v h l. m.root v h (omega (arith, still_found g b b' o o' f f' i j k v h l, l, k.more)) ∙ k.root v h l;
     }
 
-pub added_kept : (g : Graph) (b b' : List TreeNode) (o o' : List ℕ) (f f' v : ℕ) (node : TreeNode) → f ≤ place_of b v → Added b b' o o' f f' v node → Kept g b b' o o' f f'
+pub added_kept : (g : Graph) (b b' : List TreeNode) (o o' : List ℕ) (f f' v : ℕ) (node : TreeNode) → f ≤ place_of b v → NodeAdded b b' o o' f f' v node → Kept g b b' o o' f f'
 added_kept g b b' o o' f f' v node new a =
     record {
       more = omega (arith, a.more);
@@ -202,14 +202,14 @@ pub single_none : (g : Graph) (root place : ℕ → ℕ) (found r : ℕ) → Sin
 single_none g root place found r v h l p = absurd (omega (arith, l, p))
 
 -- the one that is new is v
-pub single_added : (g : Graph) (b b' : List TreeNode) (o o' : List ℕ) (f f' v : ℕ) (node : TreeNode) → Grows g b' o' f' → Added b b' o o' f f' v node → Single g (root_of b') (place_of b') f' f node.root
+pub single_added : (g : Graph) (b b' : List TreeNode) (o o' : List ℕ) (f f' v : ℕ) (node : TreeNode) → Grows g b' o' f' → NodeAdded b b' o o' f f' v node → Single g (root_of b') (place_of b') f' f node.root
 single_added g b b' o o' f f' v node j a u h l p =
     ap (root_of b') (sym (j.there u h p) ∙ (ap (node_at o') here ∙ a.last)) ∙ ap (λ (x : TreeNode). x.root) (a.here no_tree_node)
   where
     here : place_of b' u ≡ f
     here = omega (arith, l, p, a.more)
 
-pub within_added : (g : Graph) (b b' : List TreeNode) (o o' : List ℕ) (f f' a : ℕ) (node : TreeNode) → node.place ≡ f → Added b b' o o' f f' (g.head a) node → Within g (root_of b') (place_of b') f' node.root a
+pub within_added : (g : Graph) (b b' : List TreeNode) (o o' : List ℕ) (f f' a : ℕ) (node : TreeNode) → node.place ≡ f → NodeAdded b b' o o' f f' (g.head a) node → Within g (root_of b') (place_of b') f' node.root a
 within_added g b b' o o' f f' a node at x =
     record {
       reached = omega (arith, ap (λ (y : TreeNode). y.place) (x.here no_tree_node), at, x.more);

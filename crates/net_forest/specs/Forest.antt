@@ -84,7 +84,7 @@ abbrev pub Grows : Graph → List TreeNode → List ℕ → ℕ → Type 0
 Grows g tree_nodes order found = Growing g (root_of tree_nodes) (pred_of tree_nodes) (place_of tree_nodes) (node_at order) found
 
 -- node v is written as the next one that is found
-pub record Added (old new : List TreeNode) (order order' : List ℕ) (found found' v : ℕ) (node : TreeNode) : Type 0 where
+pub record NodeAdded (old new : List TreeNode) (order order' : List ℕ) (found found' v : ℕ) (node : TreeNode) : Type 0 where
   pub here : (d : TreeNode) → slice_index_or new v d ≡ node
   pub kept : (w : ℕ) (d : TreeNode) → (w ≢ v) → slice_index_or new w d ≡ slice_index_or old w d
   pub last : slice_index order' found ≡ v

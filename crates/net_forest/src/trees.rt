@@ -1,7 +1,7 @@
 // A spanning forest, by a search in breadth.
 ghost use Rattle.std.specs.Prelude.{◌≡◌, ◌+◌, ◌<◌, length};
 ghost use Rattle.net_graph.specs.Network.{graph};
-ghost use Rattle.net_forest.specs.Forest.{root_of, place_of, Free, Within, Closed, Single, Kept, Forest, Grows, Added};
+ghost use Rattle.net_forest.specs.Forest.{root_of, place_of, Free, Within, Closed, Single, Kept, Forest, Grows, NodeAdded};
 
 use crate::tree_node::TreeNode;
 use net_graph::Network;
@@ -16,7 +16,7 @@ fn add(
 )
     requires node { v < length tree_nodes.old }
     requires lengths { found.old < length order.old }
-    ensures { Added tree_nodes.old tree_nodes.new order.old order.new found.old found.new v node }
+    ensures { NodeAdded tree_nodes.old tree_nodes.new order.old order.new found.old found.new v node }
 {
     tree_nodes[v] = node;
     order[*found] = v;

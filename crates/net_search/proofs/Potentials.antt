@@ -15,12 +15,12 @@ lowered_near : (l p q b pt : ℤ) (k m n : ℕ) → nat_abs ((l +ℤ p) -ℤ q) 
 lowered_near l p q b pt k m n h i e x y = omega (arith, ints)
 
 module _ (g : Graph) (w : IsNetwork g) (s : State) (o : Sound g s) (t : Tree) (i : IsPathTree g s t) (m : IsShortest g s t) where
-  module _ (near : t.radius ≤ℤ infinity) (found : t.bound <ℤ t.radius) (s' : State) (same_flow : s'.flow ≡ s.flow) (same_excess : s'.excess ≡ s.excess) (low : Lowered g.nodes t s.potential s'.potential) where
+  module _ (most : t.radius ≤ℤ infinity) (found : t.bound <ℤ t.radius) (s' : State) (same_flow : s'.flow ≡ s.flow) (same_excess : s'.excess ≡ s.excess) (low : Lowered g.nodes t s.potential s'.potential) where
     A : HasTarget g s t
     A = m.target found
 
     target_met : t.distance t.target <ℤ infinity
-    target_met = omega (arith, ints, A.distance, found, near)
+    target_met = omega (arith, ints, A.distance, found, most)
 
     after : (a : ℕ) → a < g.arcs → s.flow a <ℤ g.limit a → pos 0 ≤ℤ reduced_cost g s.flow s'.potential a
     after a h f = elim (cases_lt (t.place (g.tail a)) t.reached) [

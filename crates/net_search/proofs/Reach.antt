@@ -85,7 +85,7 @@ module _ (g : Graph) (w : IsNetwork g) (s : State) (o : Sound g s) (t t' : Tree)
         deficits = λ v h e. omega (arith, ints, a.step.bound, a.step.distance v, i.deficits v h e);
         aims = aims';
         bounded = omega (arith, ints, a.step.bound, i.bounded, a.step.radius);
-        near = rw a.step.radius i.near;
+        radius_most = rw a.step.radius i.radius_most;
       }
     where
       was_frontier : (v : ℕ) → v < g.nodes → t'.reached ≤ t'.place v → t.reached ≤ t.place v
@@ -99,14 +99,14 @@ module _ (g : Graph) (w : IsNetwork g) (s : State) (o : Sound g s) (t t' : Tree)
       root (inr n) = omega (arith, a.step.kept t.source n, a.step.reached, i.rooted (omega (arith, P.from)))
         where
           P : HasPredecessor g s t u
-          P = i.parent u a.node (omega (arith, ints, a.nearer, i.bounded, i.near)) (λ e. n (sym e))
+          P = i.parent u a.node (omega (arith, ints, a.nearer, i.bounded, i.radius_most)) (λ e. n (sym e))
 
   pub advanced_hand : InHand g.nodes t' u
   advanced_hand = record { node = a.node; reached = omega (arith, a.step.here, a.step.reached); last_distance = omega (arith, ints, a.step.distance u, a.last_distance) }
 
 -- the beginning, from a node without a deficit
 pub begins : (g : Graph) (s : State) (t : Tree) → t.source < g.nodes → pos 0 ≤ℤ s.excess t.source → pos 0 ≤ℤ t.radius → t.radius ≤ℤ infinity → Begun g.nodes t → Searching g s g.nodes 0 t
-begins g s t h e ahead near b =
+begins g s t h e ahead most b =
     record {
       listed = b.listed;
       is_node = h;
@@ -122,11 +122,11 @@ begins g s t h e ahead near b =
       capped = omega (arith, ints, b.last_distance, b.bound, ahead);
       deficits = λ v l q. elim (cases_lt_ℤ (t.distance v) infinity) [
         | inl f ↦ absurd (omega (arith, ints, e, q, ap s.excess (b.only v l f)))
-        | inr f ↦ omega (arith, ints, b.bound, near, f)
+        | inr f ↦ omega (arith, ints, b.bound, most, f)
       ];
       aims = λ f. absurd (omega (arith, ints, f, b.bound));
       bounded = omega (arith, ints, b.bound);
-      near = near;
+      radius_most = most;
     }
 
 -- what is found where it is nearer than all, as it is seen in 64 bits

@@ -44,7 +44,13 @@ module _ (g : Graph) (w : IsNetwork g) (s : State) (o : Sound g s) (t : Tree) (i
       by q (inr r) = record { node = (w.arc a h).head; long = inr (omega (arith, ints, q.1, r, sum)) }
 
   pub no_shorter_path : NoShorterPath g s t
-  no_shorter_path v d p e = elim (path_long v d p).long [
-    | inl q ↦ omega (arith, ints, q.1, m.no_nearer v (path_long v d p).node e)
-    | inr q ↦ q
-  ]
+  no_shorter_path = record {
+    reached = λ v d p r. elim (path_long v d p).long [
+      | inl q ↦ q.1
+      | inr q ↦ omega (arith, ints, q, m.reached v (path_long v d p).node r)
+    ];
+    deficit = λ v d p e. elim (path_long v d p).long [
+      | inl q ↦ omega (arith, ints, q.1, m.no_nearer v (path_long v d p).node e)
+      | inr q ↦ q
+    ];
+  }

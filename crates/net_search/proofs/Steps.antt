@@ -7,8 +7,17 @@ use Rattle.net_graph.specs.Sound.{State, Sound}
 use Rattle.net_graph.proofs.Points.{cases_lt_ℤ, unit_small}
 use Rattle.net_search.specs.Label.{infinity}
 use Rattle.net_search.specs.Tree.{Tree, IsPathTree, HasPredecessor, Relaxed, HasTarget}
-use Rattle.net_search.specs.Inner.{Searching, InHand, Improved, Idle, Nearer, Taken}
+use Rattle.net_search.specs.Inner.{Searching, InHand, Improved, LabelTaken}
 use Rattle.net_search.proofs.Listed.{place_most}
+
+-- a path to node v of length d is no shorter than what is known
+abbrev pub Idle : Tree → ℕ → ℤ → Type 0
+Idle t v d = (t.bound ≤ℤ d) ⊎ (t.distance v ≤ℤ d)
+
+-- it is shorter than the bound, and than the label of v
+pub record Nearer (t : Tree) (v : ℕ) (d : ℤ) : Type 0 where
+  pub bound : d <ℤ t.bound
+  pub distance : d <ℤ t.distance v
 
 -- one arc more: label, potential and unit cost along it
 further : (lv lu c pu pv ps : ℤ) (k m : ℕ) → lv ≡ (lu +ℤ ((c +ℤ pu) -ℤ pv)) → nat_abs ((lu +ℤ pu) -ℤ ps) ≤ 1073741824 * k → nat_abs c ≤ 1073741824 → k < m → nat_abs ((lv +ℤ pv) -ℤ ps) ≤ 1073741824 * m
@@ -83,7 +92,7 @@ with_relaxed g s hand upto hand' upto' t i r =
       deficits = i.deficits;
       aims = i.aims;
       bounded = i.bounded;
-      near = i.near;
+      radius_most = i.radius_most;
     }
 
 module _ (g : Graph) (w : IsNetwork g) (s : State) (o : Sound g s) (hand upto : ℕ) (t : Tree) (i : Searching g s hand upto t) where
@@ -225,7 +234,7 @@ module _ (g : Graph) (w : IsNetwork g) (s : State) (o : Sound g s) (hand upto : 
           deficits = deficits';
           aims = aims';
           bounded = omega (arith, ints, bound_falls, i.bounded, m.radius);
-          near = rw m.radius i.near;
+          radius_most = rw m.radius i.radius_most;
         }
 
 -- what holds after an arc of the node in hand
@@ -265,7 +274,7 @@ module _ (g : Graph) (w : IsNetwork g) (s : State) (o : Sound g s) (u a : ℕ) (
         | inr l ↦ l
       ]
 
-      pub nearer_arc : Taken g.nodes s.excess t t' (g.head a) a d → Onward g s u (a + 1) t t'
+      pub nearer_arc : LabelTaken g.nodes s.excess t t' (g.head a) a d → Onward g s u (a + 1) t t'
       nearer_arc k =
           record {
             searching = met_by g w s o u a t i a (g.head a) d t' k.improved arc from h.reached refl takes sum_is above q.bound (omega (arith, ints, q.distance)) not_reached (aims (cases_lt_ℤ (s.excess (g.head a)) (pos 0))) refl;

@@ -1,5 +1,5 @@
 -- What holds within a search: of its lists, of one arc after another, and of one node after another.
-use Rattle.std.specs.Prelude.{◌≡◌, ℕ, ◌+◌, ◌<◌, ◌≤◌, ◌⊎◌, ℤ, pos, ◌≤ℤ◌, ◌<ℤ◌, ◌≢◌}
+use Rattle.std.specs.Prelude.{◌≡◌, ℕ, ◌+◌, ◌<◌, ◌≤◌, ℤ, pos, ◌≤ℤ◌, ◌<ℤ◌, ◌≢◌}
 use Rattle.net_graph.specs.Graph.{Graph}
 use Rattle.net_graph.specs.Sound.{State}
 use Rattle.net_search.specs.Label.{infinity, Listed}
@@ -30,7 +30,7 @@ pub record Searching (g : Graph) (s : State) (hand upto : ℕ) (t : Tree) : Type
   pub deficits : (v : ℕ) → v < g.nodes → s.excess v <ℤ pos 0 → t.bound ≤ℤ t.distance v
   pub aims : t.bound <ℤ t.radius → HasTarget g s t
   pub bounded : t.bound ≤ℤ t.radius
-  pub near : t.radius ≤ℤ infinity
+  pub radius_most : t.radius ≤ℤ infinity
 
 -- node u is the one reached last
 pub record InHand (n : ℕ) (t : Tree) (u : ℕ) : Type 0 where
@@ -51,17 +51,8 @@ pub record Improved (n : ℕ) (t t' : Tree) (v a : ℕ) (d : ℤ) : Type 0 where
   pub pred_here : t'.pred v ≡ a
   pub pred_kept : (w : ℕ) → (w ≢ v) → t'.pred w ≡ t.pred w
 
--- a path to node v of length d is no shorter than what is known
-abbrev pub Idle : Tree → ℕ → ℤ → Type 0
-Idle t v d = (t.bound ≤ℤ d) ⊎ (t.distance v ≤ℤ d)
-
--- it is shorter than the bound, and than the label of v
-pub record Nearer (t : Tree) (v : ℕ) (d : ℤ) : Type 0 where
-  pub bound : d <ℤ t.bound
-  pub distance : d <ℤ t.distance v
-
--- then it is taken, and v, if it has a deficit, is the target
-pub record Taken (n : ℕ) (excess : ℕ → ℤ) (t t' : Tree) (v a : ℕ) (d : ℤ) : Type 0 where
+-- node v takes the label d by arc a, and, if it has a deficit, is the target
+pub record LabelTaken (n : ℕ) (excess : ℕ → ℤ) (t t' : Tree) (v a : ℕ) (d : ℤ) : Type 0 where
   pub improved : Improved n t t' v a d
   pub aim : excess v <ℤ pos 0 → (t'.bound ≡ d) × (t'.target ≡ v)
   pub kept : pos 0 ≤ℤ excess v → (t'.bound ≡ t.bound) × (t'.target ≡ t.target)

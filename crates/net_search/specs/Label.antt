@@ -71,7 +71,7 @@ pub record Relabelled (old new : List Label) (v a : ℕ) (d : ℤ) : Type 0 wher
   pub pred_kept : (w : ℕ) → (w ≢ v) → pred_of new w ≡ pred_of old w
 
 -- node v has the place k
-pub record Placed (old new : List Label) (v k : ℕ) : Type 0 where
+pub record PlacedAt (old new : List Label) (v k : ℕ) : Type 0 where
   pub distance : (w : ℕ) → distance_of new w ≡ distance_of old w
   pub pred : (w : ℕ) → pred_of new w ≡ pred_of old w
   pub here : place_of new v ≡ k

@@ -94,6 +94,7 @@ pub data OpenPath (g : Graph) (s : State) (u : ℕ) : ℕ → ℤ → Type 0 whe
   here : OpenPath g s u u (pos 0)
   along : {v : ℕ} {d e : ℤ} (a : ℕ) → a < g.arcs → s.flow a <ℤ g.limit a → OpenPath g s u (g.tail a) d → g.head a ≡ v → e ≡ (d +ℤ reduced_cost g s.flow s.potential a) → OpenPath g s u v e
 
--- no path of open arcs from the source to a node with a deficit is shorter than the bound
-abbrev pub NoShorterPath : Graph → State → Tree → Type 0
-NoShorterPath g s t = (v : ℕ) (d : ℤ) → OpenPath g s t.source v d → s.excess v <ℤ pos 0 → t.bound ≤ℤ d
+-- no path of open arcs from the source to a reached node is shorter than its distance, and none to a node with a deficit than the bound
+pub record NoShorterPath (g : Graph) (s : State) (t : Tree) : Type 0 where
+  pub reached : (v : ℕ) (d : ℤ) → OpenPath g s t.source v d → t.place v < t.reached → t.distance v ≤ℤ d
+  pub deficit : (v : ℕ) (d : ℤ) → OpenPath g s t.source v d → s.excess v <ℤ pos 0 → t.bound ≤ℤ d

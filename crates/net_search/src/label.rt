@@ -13,7 +13,7 @@ pub struct Label {
 /// Farther than any node.
 pub const INFINITY: i64 = 1 << 62;
 
-ghost use Rattle.net_search.specs.Label.{place_of, IsUnlabelled, AllUnlabelled, Unlabelled, Relabelled, Placed};
+ghost use Rattle.net_search.specs.Label.{place_of, IsUnlabelled, AllUnlabelled, Unlabelled, Relabelled, PlacedAt};
 
 impl Label {
     // Of a node, one of `n`, that has none.
@@ -56,7 +56,7 @@ pub(crate) fn relabel(labels: &mut [Label], v: usize, a: usize, d: i64)
 // Gives node `v` the place `k`.
 pub(crate) fn put(labels: &mut [Label], v: usize, k: usize)
     requires { v < length labels.old }
-    ensures { Placed labels.old labels.new v k }
+    ensures { PlacedAt labels.old labels.new v k }
 {
     labels[v].place = k;
 }

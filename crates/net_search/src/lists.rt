@@ -2,7 +2,7 @@
 // after it.
 ghost use Rattle.std.specs.Prelude.{◌≡◌, ℕ, ◌+◌, ◌<◌, ◌≤◌, length, ◌≤ℤ◌, ◌⊎◌, slice_index};
 ghost use Rattle.net_graph.specs.Order.{node_at};
-ghost use Rattle.net_search.specs.Label.{distance_of, place_of, infinity, Listed, AllUnlabelled, Forgotten, Relabelled, Discovered, Placed};
+ghost use Rattle.net_search.specs.Label.{distance_of, place_of, infinity, Listed, AllUnlabelled, Forgotten, Relabelled, Discovered, PlacedAt};
 
 use crate::label::{INFINITY, Label, put, relabel, unlabel};
 
@@ -113,7 +113,7 @@ pub(crate) fn reach(
     requires waits { k < waiting.old }
     ensures node { result ≡ node_at frontier.old k }
     ensures reached { reached.new ≡ reached.old + 1 }
-    ensures placed { Placed labels.old labels.new result reached.old }
+    ensures placed { PlacedAt labels.old labels.new result reached.old }
     ensures listed { Listed (length order.new) (distance_of labels.new) (place_of labels.new)
         (node_at order.new)
         (node_at frontier.new) reached.new waiting.new }

@@ -38,7 +38,7 @@ pub struct Search<'m, 'o, 'f> {
 
 impl<'m, 'o, 'f> Search<'m, 'o, 'f> {
     ghost use Rattle.net_search.specs.Tree.{tree, HasLengths, SameSlices, IsPathTree, IsShortest, NoShorterPath};
-    ghost use Rattle.net_search.specs.Inner.{Searching, InHand, Improved, Taken, Ended, Reached, Advanced};
+    ghost use Rattle.net_search.specs.Inner.{Searching, InHand, Improved, LabelTaken, Ended, Reached, Advanced};
     ghost use Rattle.net_search.specs.Inner.{Forgot, Begun};
 
     /// A search that has labelled no node yet.
@@ -104,7 +104,7 @@ impl<'m, 'o, 'f> Search<'m, 'o, 'f> {
         requires unreached { self.old.reached ≤ (tree self.old).place v }
         requires near { d <ℤ infinity }
         ensures slices { SameSlices self.old self.new }
-        ensures taken { Taken (length self.old.order.now) (excess_of nodes.now) (tree self.old)
+        ensures taken { LabelTaken (length self.old.order.now) (excess_of nodes.now) (tree self.old)
             (tree self.new) v a d }
     {
         self.improve(v, a, d);
@@ -248,7 +248,7 @@ impl<'m, 'o, 'f> Search<'m, 'o, 'f> {
         requires source { source < (graph flow.now.net).nodes }
         requires excess { pos 0 ≤ℤ (state flow.now).excess source }
         requires ahead { pos 0 ≤ℤ radius }
-        requires near { radius ≤ℤ infinity }
+        requires radius_most { radius ≤ℤ infinity }
         ensures slices { SameSlices self.old self.new }
         ensures source { self.new.source ≡ source }
         ensures radius { self.new.radius ≡ radius }

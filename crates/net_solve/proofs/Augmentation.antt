@@ -90,14 +90,14 @@ pub record Ready (g : Graph) (s : State) (t : Tree) : Type 0 where
 pub ready : (f : Flow) (q : Search) (nodes : List Node) → Sound (graph f.net) (state f) → IsPathTree (graph f.net) (state f) (tree q) → IsShortest (graph f.net) (state f) (tree q) → (r : ℤ) → q.radius ≡ r → r ≤ℤ infinity → q.bound <ℤ r
     → Lowered (length f.nodes.now) (tree q) (potential_of f.nodes.now) (potential_of nodes) → ((v : ℕ) → excess_of nodes v ≡ excess_of f.nodes.now v)
     → Ready (graph f.net) (record { flow = (state f).flow; excess = excess_of nodes; potential = potential_of nodes }) (tree q)
-ready f q nodes o i m r radius near found low same =
+ready f q nodes o i m r radius most found low same =
     record {
-      sound = lowered_sound (graph f.net) f.net.formed.laws (state f) o (tree q) i m (omega (arith, ints, radius, near)) (omega (arith, ints, radius, found)) _ refl (fun_ext same) (rw f.nodes_len at low);
-      found = lowered_found (graph f.net) f.net.formed.laws (state f) o (tree q) i m (omega (arith, ints, radius, near)) (omega (arith, ints, radius, found)) _ refl (fun_ext same) (rw f.nodes_len at low);
+      sound = lowered_sound (graph f.net) f.net.formed.laws (state f) o (tree q) i m (omega (arith, ints, radius, most)) (omega (arith, ints, radius, found)) _ refl (fun_ext same) (rw f.nodes_len at low);
+      found = lowered_found (graph f.net) f.net.formed.laws (state f) o (tree q) i m (omega (arith, ints, radius, most)) (omega (arith, ints, radius, found)) _ refl (fun_ext same) (rw f.nodes_len at low);
     }
 
 pub bound_fits : (g : Graph) (w : IsNetwork g) (s : State) (o : Sound g s) (t : Tree) (i : IsPathTree g s t) (m : IsShortest g s t) → (r : ℤ) → t.radius ≡ r → r ≤ℤ infinity → t.bound <ℤ r → nat_abs t.bound ≤ 2 ^ 60 + 2 ^ 58
-bound_fits g w s o t i m r radius near h = omega (arith, ints, A.distance, label_fits g w s o t i t.target A.node (omega (arith, ints, A.distance, h, near)))
+bound_fits g w s o t i m r radius most h = omega (arith, ints, A.distance, label_fits g w s o t i t.target A.node (omega (arith, ints, A.distance, h, most)))
   where
     A : HasTarget g s t
     A = m.target (omega (arith, ints, radius, h))

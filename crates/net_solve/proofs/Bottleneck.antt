@@ -1,14 +1,22 @@
 -- The bottleneck of the path found.
-use Rattle.std.proofs.Common.{◌≡◌, ℕ, ◌⊎◌, ℤ, pos, neg_ℤ, ◌≤ℤ◌, ◌<ℤ◌, refl, ◌∙◌, inl, inr, arith}
+use Rattle.std.proofs.Common.{◌≡◌, ℕ, ◌<◌, ◌⊎◌, ℤ, pos, neg_ℤ, ◌≤ℤ◌, ◌<ℤ◌, ◌≢◌, refl, ◌∙◌, inl, inr, arith}
 use Rattle.std.proofs.lemmas.Int.{ints}
 use Rattle.std.proofs.lemmas.Bool.{cases_eq}
 use Rattle.net_graph.specs.Graph.{Graph, at, IsNetwork, residual_capacity}
 use Rattle.net_graph.specs.Sound.{State}
 use Rattle.net_graph.proofs.Points.{at_same, at_other, residual_open}
 use Rattle.net_search.specs.Tree.{Tree}
-use Rattle.net_search.specs.Path.{Step, IsShortestPath, IsPredecessor}
+use Rattle.net_search.specs.Path.{OnPath, Step, IsShortestPath, IsPredecessor}
 use Rattle.net_search.proofs.PathPush.{chain_split}
-use Rattle.net_solve.specs.Inner.{IsBottleneck}
+
+-- `least` goes along the part of the path found that node v begins
+pub record IsBottleneck (g : Graph) (s : State) (t : Tree) (v : ℕ) (least : ℤ) : Type 0 where
+  pub node : v < g.nodes
+  pub on : OnPath t v
+  pub some : pos 0 <ℤ least
+  pub enough : least ≤ℤ s.excess t.source
+  pub wanted : least ≤ℤ neg_ℤ (s.excess t.target)
+  pub arcs : (u : ℕ) → IsPredecessor g t t.target u → (u ≢ t.source) → (least ≤ℤ residual_capacity g s.flow (t.pred u)) ⊎ IsPredecessor g t v u
 
 -- what is at one place is between nothing and all
 pub at_most : (k i : ℕ) (z : ℤ) → pos 0 <ℤ z → (pos 0 ≤ℤ at k z i) × (at k z i ≤ℤ z)

@@ -1,12 +1,11 @@
 -- What holds between the steps of the solver.
-use Rattle.std.specs.Prelude.{◌≡◌, ℕ, ◌<◌, ◌⊎◌, ℤ, pos, ◌+ℤ◌, neg_ℤ, ◌≤ℤ◌, ◌<ℤ◌, if◌then◌else◌, nat_eq, ◌≢◌}
+use Rattle.std.specs.Prelude.{◌≡◌, ℕ, ◌<◌, ℤ, pos, ◌+ℤ◌, ◌≤ℤ◌, if◌then◌else◌, nat_eq}
 use Rattle.sums.specs.Sum.{sum_ℤ}
-use Rattle.net_graph.specs.Graph.{Graph, negative_arc_capacity, residual_capacity}
+use Rattle.net_graph.specs.Graph.{Graph, negative_arc_capacity}
 use Rattle.net_graph.specs.Network.{graph}
 use Rattle.net_graph.specs.Sound.{State, state, Sound, supply, total_excess, Later}
 use Rattle.net_graph.specs.declared.flow.Flow.{Flow}
-use Rattle.net_search.specs.Tree.{Tree, SameSlices}
-use Rattle.net_search.specs.Path.{OnPath, IsPredecessor}
+use Rattle.net_search.specs.Tree.{SameSlices}
 use Rattle.net_search.specs.declared.search.Search.{Search}
 use Rattle.net_solve.specs.Promise.{SameFlow, initial_flow}
 
@@ -17,15 +16,6 @@ pub record Progress (f : Flow) (q : Search) (f' : Flow) (q' : Search) : Type 0 w
   pub sound : Sound (graph f.net) (state f')
   pub later : Later (graph f.net) (state f) (state f')
   pub quiet : (v : ℕ) → v < (graph f.net).nodes → (state f).excess v ≤ℤ pos 0 → (state f').excess v ≤ℤ pos 0
-
--- `least` goes along the part of the path found that node v begins
-pub record IsBottleneck (g : Graph) (s : State) (t : Tree) (v : ℕ) (least : ℤ) : Type 0 where
-  pub node : v < g.nodes
-  pub on : OnPath t v
-  pub some : pos 0 <ℤ least
-  pub enough : least ≤ℤ s.excess t.source
-  pub wanted : least ≤ℤ neg_ℤ (s.excess t.target)
-  pub arcs : (u : ℕ) → IsPredecessor g t t.target u → (u ≢ t.source) → (least ≤ℤ residual_capacity g s.flow (t.pred u)) ⊎ IsPredecessor g t v u
 
 -- what leaves node v in the initial flow by the arcs below k
 abbrev pub initial_outflow : Graph → ℕ → ℕ → ℤ

@@ -106,7 +106,7 @@ pub(crate) fn augment(flow: &mut Flow, search: &mut Search, source: usize, radiu
     requires source { source < (graph flow.old.net).nodes }
     requires excess { pos 0 <ℤ (state flow.old).excess source }
     requires ahead { pos 0 ≤ℤ radius }
-    requires near { radius ≤ℤ infinity }
+    requires radius_most { radius ≤ℤ infinity }
     ensures progress { Progress flow.old search.old flow.new search.new }
     ensures less { IsTrue result → total_excess (graph flow.old.net) (state flow.new) <
         total_excess (graph flow.old.net) (state flow.old) }

@@ -28,7 +28,7 @@ fn send_excess(flow: &mut Flow, search: &mut Search, source: usize, radius: i64)
     requires sound { Sound (graph flow.old.net) (state flow.old) }
     requires source { source < (graph flow.old.net).nodes }
     requires ahead { pos 0 ≤ℤ radius }
-    requires near { radius ≤ℤ infinity }
+    requires radius_most { radius ≤ℤ infinity }
     ensures progress { Progress flow.old search.old flow.new search.new }
     ensures sent { IsTrue result → (state flow.new).excess source ≤ℤ pos 0 }
     ensures cut { IsFalse result → radius ≡ infinity →
@@ -48,7 +48,7 @@ fn augment_within_some(flow: &mut Flow, search: &mut Search, first: usize, radiu
     requires sound { Sound (graph flow.old.net) (state flow.old) }
     requires first { first < 31 }
     requires ahead { pos 0 ≤ℤ radius }
-    requires near { radius ≤ℤ infinity }
+    requires radius_most { radius ≤ℤ infinity }
     ensures progress { Progress flow.old search.old flow.new search.new }
 {
     let net = flow.net;
@@ -63,7 +63,7 @@ fn augment_within(flow: &mut Flow, search: &mut Search, radius: i64)
     requires lengths { HasLengths (graph flow.old.net).nodes search.old }
     requires sound { Sound (graph flow.old.net) (state flow.old) }
     requires ahead { pos 0 ≤ℤ radius }
-    requires near { radius ≤ℤ infinity }
+    requires radius_most { radius ≤ℤ infinity }
     ensures progress { Progress flow.old search.old flow.new search.new }
 {
     for first in 0..STRIDE {

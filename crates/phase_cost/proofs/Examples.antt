@@ -4,7 +4,7 @@ use Rattle.sums.specs.Sum.{sum_to}
 use Rattle.phase_field.specs.Field.{height, step_right, step_below, near, field_in, turns_in}
 use Rattle.phase_cost.specs.Cost.{cost}
 use Rattle.phase_cost.specs.Cost.{AllComeBack}
-use Rattle.phase_cost.specs.Theorems.{ones, Reads, TwoRows, HalfUp, HalfOver}
+use Rattle.phase_cost.specs.Theorems.{ones, HasHeights, TwoRows, HalfUp, HalfOver}
 
 pub two_rows : TwoRows
 unfolding cost sum_to height step_right step_below near turns_in
@@ -17,7 +17,7 @@ two_rows = (back, refl, reads)
     back (suc (suc (suc x))) zero k l = absurd (omega arith)
     back x (suc y) k l = absurd (omega arith)
 
-    reads : Reads (field_in 4 2 10 (1 ∷ 4 ∷ 7 ∷ 0 ∷ 2 ∷ 5 ∷ 8 ∷ 1 ∷ []) ones ones) (turns_in 4 (pos 0 ∷ pos 0 ∷ pos 0 ∷ pos 1 ∷ pos 0 ∷ pos 0 ∷ pos 0 ∷ pos 1 ∷ []))
+    reads : HasHeights (field_in 4 2 10 (1 ∷ 4 ∷ 7 ∷ 0 ∷ 2 ∷ 5 ∷ 8 ∷ 1 ∷ []) ones ones) (turns_in 4 (pos 0 ∷ pos 0 ∷ pos 0 ∷ pos 1 ∷ pos 0 ∷ pos 0 ∷ pos 0 ∷ pos 1 ∷ []))
         (pos 1 ∷ pos 4 ∷ pos 7 ∷ pos 10 ∷ pos 2 ∷ pos 5 ∷ pos 8 ∷ pos 11 ∷ [])
     reads zero zero k l = refl
     reads (suc zero) zero k l = refl
@@ -35,7 +35,7 @@ pub half_up : HalfUp
 unfolding cost sum_to height step_right step_below near turns_in
 half_up = (refl, reads)
   where
-    reads : Reads (field_in 2 1 10 (0 ∷ 5 ∷ []) ones ones) (turns_in 2 (pos 0 ∷ pos 0 ∷ [])) (pos 0 ∷ pos 5 ∷ [])
+    reads : HasHeights (field_in 2 1 10 (0 ∷ 5 ∷ []) ones ones) (turns_in 2 (pos 0 ∷ pos 0 ∷ [])) (pos 0 ∷ pos 5 ∷ [])
     reads zero zero k l = refl
     reads (suc zero) zero k l = refl
     reads (suc (suc x)) zero k l = absurd (omega arith)
@@ -45,7 +45,7 @@ pub half_over : HalfOver
 unfolding cost sum_to height step_right step_below near turns_in
 half_over = (refl, reads)
   where
-    reads : Reads (field_in 2 1 10 (5 ∷ 0 ∷ []) ones ones) (turns_in 2 (pos 0 ∷ pos 1 ∷ [])) (pos 5 ∷ pos 10 ∷ [])
+    reads : HasHeights (field_in 2 1 10 (5 ∷ 0 ∷ []) ones ones) (turns_in 2 (pos 0 ∷ pos 1 ∷ [])) (pos 5 ∷ pos 10 ∷ [])
     reads zero zero k l = refl
     reads (suc zero) zero k l = refl
     reads (suc (suc x)) zero k l = absurd (omega arith)

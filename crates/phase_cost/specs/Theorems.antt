@@ -64,26 +64,26 @@ abbrev pub ones : List ℕ
 ones = 1 ∷ 1 ∷ 1 ∷ 1 ∷ 1 ∷ 1 ∷ 1 ∷ 1 ∷ []
 
 -- these heights, row by row
-abbrev pub Reads : Field → Turns → List ℤ → Type 0
-Reads f t hs = (x y : ℕ) → x < f.wide → y < f.high → height f t x y ≡ turns_in f.wide hs x y
+abbrev pub HasHeights : Field → Turns → List ℤ → Type 0
+HasHeights f t hs = (x y : ℕ) → x < f.wide → y < f.high → height f t x y ≡ turns_in f.wide hs x y
 
 -- 1 4 7 0 / 2 5 8 1: no square is off, and 0 0 0 1 / 0 0 0 1 cost nothing and give 1 4 7 10 / 2 5 8 11
 abbrev pub TwoRows : Type 0
 TwoRows =
     let f = field_in 4 2 10 (1 ∷ 4 ∷ 7 ∷ 0 ∷ 2 ∷ 5 ∷ 8 ∷ 1 ∷ []) ones ones in
     let t = turns_in 4 (pos 0 ∷ pos 0 ∷ pos 0 ∷ pos 1 ∷ pos 0 ∷ pos 0 ∷ pos 0 ∷ pos 1 ∷ []) in
-    AllComeBack f × (cost f t ≡ 0) × Reads f t (pos 1 ∷ pos 4 ∷ pos 7 ∷ pos 10 ∷ pos 2 ∷ pos 5 ∷ pos 8 ∷ pos 11 ∷ [])
+    AllComeBack f × (cost f t ≡ 0) × HasHeights f t (pos 1 ∷ pos 4 ∷ pos 7 ∷ pos 10 ∷ pos 2 ∷ pos 5 ∷ pos 8 ∷ pos 11 ∷ [])
 
 -- 0 5: no turns cost nothing
 abbrev pub HalfUp : Type 0
 HalfUp =
     let f = field_in 2 1 10 (0 ∷ 5 ∷ []) ones ones in
     let t = turns_in 2 (pos 0 ∷ pos 0 ∷ []) in
-    (cost f t ≡ 0) × Reads f t (pos 0 ∷ pos 5 ∷ [])
+    (cost f t ≡ 0) × HasHeights f t (pos 0 ∷ pos 5 ∷ [])
 
 -- 5 0: half a turn counts upward, so a turn at the second costs nothing, and gives 5 10
 abbrev pub HalfOver : Type 0
 HalfOver =
     let f = field_in 2 1 10 (5 ∷ 0 ∷ []) ones ones in
     let t = turns_in 2 (pos 0 ∷ pos 1 ∷ []) in
-    (cost f t ≡ 0) × Reads f t (pos 5 ∷ pos 10 ∷ [])
+    (cost f t ≡ 0) × HasHeights f t (pos 5 ∷ pos 10 ∷ [])

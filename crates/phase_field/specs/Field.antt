@@ -57,7 +57,8 @@ expected_right f x y = near f.turn (pos (f.seen (suc x) y) -ℤ pos (f.seen x y)
 abbrev pub expected_below : Field → ℕ → ℕ → ℤ
 expected_below f x y = near f.turn (pos (f.seen x (suc y)) -ℤ pos (f.seen x y))
 
--- by how much expected steps don't come back round the square of four places whose first is (x, y): right and down against down and right
+-- by how much expected steps don't come back round the square of four places whose first is (x, y): right and down against down and right.
+-- This is the residue of the square, in units of what was seen.
 abbrev pub round : Field → ℕ → ℕ → ℤ
 round f x y = (expected_right f x y +ℤ expected_below f (suc x) y) -ℤ (expected_below f x y +ℤ expected_right f x (suc y))
 

@@ -1,6 +1,7 @@
 -- Plain pictures of grey.
 use Rattle.std.specs.Prelude.{ℕ, ◌*◌, ◌/◌, ◌<◌, ◌≤◌, if◌then◌else◌, List, ◌++◌, map, length, ℤ, pos, ◌-ℤ◌, ◌≤ℤ◌, codes, decimal, fold, ◌==◌, nat_le, slice_index_or, unsigned_abs}
 use Rattle.std.specs.Int.{int_min, int_max}
+use Rattle.print.specs.declared.rows.Parting.TheVariants.{Space}
 use Rattle.print.specs.Rows.{rows_text}
 
 -- so much of a span, of 255
@@ -25,7 +26,7 @@ head_text wide high = codes "P2\n" ++ (decimal wide ++ (codes " " ++ (decimal hi
 
 -- a plain PGM picture
 abbrev pub picture_text : ℕ → ℕ → List ℤ → List ℕ
-picture_text wide high zs = head_text wide high ++ rows_text wide high (shades (least zs) (greatest zs) zs)
+picture_text wide high zs = head_text wide high ++ rows_text Space wide high (shades (least zs) (greatest zs) zs)
 
 -- shades are 255 at most, and what is higher is never darker
 abbrev pub NeverDarker : Type 0

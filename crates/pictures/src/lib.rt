@@ -4,7 +4,7 @@
 ghost use Rattle.std.specs.Prelude.{◌≡◌, ◌<◌, ◌↔◌, [], map, pos, ◌≤ℤ◌, IfOk, IfSome, IsNone, Contains, All, string_bytes};
 ghost use Rattle.pictures.specs.Picture.{scaled, shade, least, greatest, shades, head_text, picture_text, NeverDarker};
 
-use print::rows::push_rows;
+use print::rows::{Parting, push_rows};
 use std::alloc::{AllocError, Global};
 
 // So much of a span, of 255.
@@ -83,7 +83,7 @@ pub fn picture(heap: Global, wide: usize, high: usize, values: &[i64]) -> Result
 {
     let shades = shades_of(heap, least_of(values), greatest_of(values), values)?;
     let mut out = head_of(heap, wide, high)?;
-    push_rows(&mut out, wide, high, shades.as_slice())?;
+    push_rows(&mut out, Parting::Space, wide, high, shades.as_slice())?;
     Ok(out)
 }
 

@@ -1,5 +1,5 @@
 -- Printed rows, read back.
-use Rattle.std.proofs.Common.{◌≡◌, ℕ, suc, ◌+◌, ◌-◌, ◌*◌, ◌^◌, ◌<◌, ◌≤◌, Bool, true, false, cond, eqb, List, [], ◌∷◌, ◌++◌, map, length, ℤ, pos, negsuc, neg_ℤ, Some, decimal, Option, sym, refl, ap, ◌∙◌, append_assoc, append-nil, arith, rules}
+use Rattle.std.proofs.Common.{◌≡◌, ℕ, suc, ◌+◌, ◌-◌, ◌*◌, ◌^◌, ◌<◌, ◌≤◌, Bool, true, false, cond, eqb, List, [], ◌∷◌, ◌++◌, map, length, ℤ, pos, negsuc, neg_ℤ, Some, Ok, decimal, Option, Result, sym, refl, ap, ◌∙◌, append_assoc, append-nil, arith, rules}
 use lib.Signed.{mag}
 use Rattle.std.specs.Option.{option_map}
 use Rattle.std.specs.Int.{IsInRange}
@@ -12,10 +12,13 @@ use Rattle.std.proofs.lemmas.Str.Parse.{IsNumeralModel, numerals_by_fold}
 use Rattle.std.proofs.lemmas.Bool.{and_parts, ne_eqb}
 use Rattle.std.proofs.lemmas.Bool.Decides.{nat_tests}
 use Rattle.std.specs.Option.{option_and_then}
-use Rattle.text.specs.Numeral.{digit, numeral_on, numeral, capped}
-use Rattle.text.specs.Pieces.{parts, onto, pieces, filled, words}
-use Rattle.text.specs.Row.{row_onto}
-use Rattle.text.specs.declared.pieces.Mark.TheVariants.{Blank}
+use Rattle.text_words.specs.Numeral.{digit, numeral_on, numeral, capped, largest, largest_entry}
+use Rattle.text_words.specs.Pieces.{is_blank, onto, pieces, filled, words}
+use Rattle.text_words.specs.declared.pieces.Mark.TheVariants.{Blank}
+use Rattle.text_lines.specs.Flaw.{flaw_of, or_flaw, number_of, and_then}
+use Rattle.text_lines.specs.declared.flaw.Flaw.{Flaw}
+use Rattle.text.specs.Section.{row_onto}
+use Rattle.print.specs.declared.rows.Parting.TheVariants.{Space}
 use Rattle.print.specs.Rows.{more_text, row_text}
 use Rattle.print.specs.Back.{signed_numeral, onto_row, signed_row, RowsReadBack, RowsReadAgain}
 
@@ -52,9 +55,9 @@ numeral_decimal n l = numeral_digits (decimal n) (decimal_nonempty n l) (digits_
 
 -- no byte parts words
 abbrev Solid : List ℕ → Type 0
-Solid w = AllByRecursion (λ b. parts Blank b ≡ false) w
+Solid w = AllByRecursion (λ b. is_blank b ≡ false) w
 
-solid_digit : (b : ℕ) → IsInRange 48 57 b → parts Blank b ≡ false
+solid_digit : (b : ℕ) → IsInRange 48 57 b → is_blank b ≡ false
 solid_digit b h = grind (arith, nat_tests, h.0, h.1)
 
 solid_digits : (ds : List ℕ) → all_ascii_digits ds ≡ true → Solid ds
@@ -84,10 +87,10 @@ piece_last (b ∷ []) s l = ap (λ (t : Bool). cond t ([] ∷ []) ((b ∷ []) �
 piece_last (b ∷ c ∷ w) s l =
     ap (λ (t : Bool). cond t ([] ∷ pieces Blank (c ∷ w)) (onto b (pieces Blank (c ∷ w)))) s.0 ∙ ap (onto b) (piece_last (c ∷ w) s.1 (omega arith))
 
-row_pieces : (z : ℤ) (zs : List ℤ) → AllByRecursion (λ y. mag y < 2 ^ 63) (z ∷ zs) → pieces Blank (signed_decimal z ++ more_text zs) ≡ map signed_decimal (z ∷ zs)
+row_pieces : (z : ℤ) (zs : List ℤ) → AllByRecursion (λ y. mag y < 2 ^ 63) (z ∷ zs) → pieces Blank (signed_decimal z ++ more_text Space zs) ≡ map signed_decimal (z ∷ zs)
 unfolding more_text
 row_pieces z [] h = ap (pieces Blank) (append-nil (signed_decimal z)) ∙ piece_last (signed_decimal z) (solid_signed z h.0) (some_signed z h.0)
-row_pieces z (y ∷ ys) h = piece_then (signed_decimal z) (signed_decimal y ++ more_text ys) (solid_signed z h.0) ∙ ap (λ (ws : List (List ℕ)). signed_decimal z ∷ ws) (row_pieces y ys h.1)
+row_pieces z (y ∷ ys) h = piece_then (signed_decimal z) (signed_decimal y ++ more_text Space ys) (solid_signed z h.0) ∙ ap (λ (ws : List (List ℕ)). signed_decimal z ∷ ws) (row_pieces y ys h.1)
 
 filled_cons : (w : List ℕ) (ws : List (List ℕ)) → 0 < length w → filled (w ∷ ws) ≡ w ∷ filled ws
 filled_cons [] ws l = absurd (omega arith)
@@ -101,7 +104,7 @@ pieces_nil : pieces Blank [] ≡ []
 unfolding pieces
 pieces_nil = refl
 
-pub words_row : (zs : List ℤ) → AllByRecursion (λ y. mag y < 2 ^ 63) zs → words (row_text zs) ≡ map signed_decimal zs
+pub words_row : (zs : List ℤ) → AllByRecursion (λ y. mag y < 2 ^ 63) zs → words (row_text Space zs) ≡ map signed_decimal zs
 words_row [] h = ap filled pieces_nil
 words_row (z ∷ zs) h = ap filled (row_pieces z zs h) ∙ filled_all (z ∷ zs) h
 
@@ -131,13 +134,18 @@ small : (ns : List ℕ) → AllByRecursion (λ n. n ≤ 4294967295) ns → AllBy
 small [] h = tt
 small (n ∷ ns) h = (omega (arith, h.0), small ns h.1)
 
-row_again : (ms ns : List ℕ) → AllByRecursion (λ n. n ≤ 4294967295) ns → row_onto ms (map signed_decimal (map pos ns)) ≡ Some (ms ++ ns)
+number_again : (n : ℕ) → n ≤ 4294967295 → number_of (decimal n) ≡ Ok n
+number_again n l =
+    let c : capped largest n ≡ n = omega (arith, l) in
+    ap (λ (o : Option ℕ). or_flaw (option_map (capped largest) o) (flaw_of (decimal n))) (numeral_decimal n (omega (arith, l))) ∙ ap (λ (k : ℕ). Ok k) c
+
+row_again : (ms ns : List ℕ) → AllByRecursion (λ n. n ≤ 4294967295) ns → row_onto ms (map signed_decimal (map pos ns)) ≡ Ok (ms ++ ns)
 unfolding row_onto
-row_again ms [] h = ap (λ (x : List ℕ). Some x) (sym (append-nil ms))
+row_again ms [] h = ap (λ (x : List ℕ). Ok x) (sym (append-nil ms))
 row_again ms (n ∷ ns) h =
-    let c : capped 4294967295 n ≡ n = omega (arith, h.0) in
-    ap (λ (o : Option ℕ). option_and_then (λ (k : ℕ). row_onto (ms ++ (capped 4294967295 k ∷ [])) (map signed_decimal (map pos ns))) o) (numeral_decimal n (omega (arith, h.0)))
-    ∙ ap (λ (k : ℕ). row_onto (ms ++ (k ∷ [])) (map signed_decimal (map pos ns))) c ∙ row_again (ms ++ (n ∷ [])) ns h.1 ∙ ap (λ (x : List ℕ). Some x) (append_assoc ms (n ∷ []) ns)
+    let c : capped largest_entry n ≡ n = omega (arith, h.0) in
+    ap (λ (r : Result ℕ Flaw). and_then (λ (k : ℕ). row_onto (ms ++ (capped largest_entry k ∷ [])) (map signed_decimal (map pos ns))) r) (number_again n h.0)
+    ∙ ap (λ (k : ℕ). row_onto (ms ++ (k ∷ [])) (map signed_decimal (map pos ns))) c ∙ row_again (ms ++ (n ∷ [])) ns h.1 ∙ ap (λ (x : List ℕ). Ok x) (append_assoc ms (n ∷ []) ns)
 
 pub rows_read_again : RowsReadAgain
 rows_read_again ns h = ap (row_onto []) (words_row (map pos ns) (small ns h)) ∙ row_again [] ns h

@@ -1,12 +1,13 @@
 -- Rows that are read back. The statements are types whose proofs are owed.
-use Rattle.std.specs.Prelude.{◌≡◌, ℕ, ◌^◌, ◌<◌, ◌≤◌, if◌then◌else◌, List, [], ◌∷◌, map, ℤ, pos, neg_ℤ, Some, None, Option, ◌==◌}
+use Rattle.std.specs.Prelude.{◌≡◌, ℕ, ◌^◌, ◌<◌, ◌≤◌, if◌then◌else◌, List, [], ◌∷◌, map, ℤ, pos, neg_ℤ, Some, None, Ok, Option, ◌==◌}
 use Rattle.std.specs.Int.Signed.{mag}
 use Rattle.std.specs.Option.{option_map}
 use Rattle.std.specs.List.{AllByRecursion}
 use Rattle.std.specs.Option.{option_and_then}
-use Rattle.text.specs.Numeral.{numeral}
-use Rattle.text.specs.Pieces.{words}
-use Rattle.text.specs.Row.{row_onto}
+use Rattle.text_words.specs.Numeral.{numeral}
+use Rattle.text_words.specs.Pieces.{words}
+use Rattle.text.specs.Section.{row_onto}
+use Rattle.print.specs.declared.rows.Parting.TheVariants.{Space}
 use Rattle.print.specs.Rows.{row_text}
 
 -- a number with a minus sign, which is 45, or without
@@ -25,8 +26,8 @@ signed_row (w ∷ ws) = option_and_then (λ z. onto_row z (signed_row ws)) (sign
 
 -- a printed row of numbers of 64 bits says these numbers
 abbrev pub RowsReadBack : Type 0
-RowsReadBack = (zs : List ℤ) → AllByRecursion (λ z. mag z < 2 ^ 63) zs → signed_row (words (row_text zs)) ≡ Some zs
+RowsReadBack = (zs : List ℤ) → AllByRecursion (λ z. mag z < 2 ^ 63) zs → signed_row (words (row_text Space zs)) ≡ Some zs
 
 -- and where they are 0 or more and of 32 bits, the reader of documents reads the row
 abbrev pub RowsReadAgain : Type 0
-RowsReadAgain = (ns : List ℕ) → AllByRecursion (λ n. n ≤ 4294967295) ns → row_onto [] (words (row_text (map pos ns))) ≡ Some ns
+RowsReadAgain = (ns : List ℕ) → AllByRecursion (λ n. n ≤ 4294967295) ns → row_onto [] (words (row_text Space (map pos ns))) ≡ Ok ns

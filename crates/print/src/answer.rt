@@ -3,7 +3,7 @@ ghost use Rattle.std.specs.Prelude.{◌≡◌, IfOk, string_bytes};
 ghost use Rattle.phase_field.specs.Model.{field_of};
 ghost use Rattle.print.specs.Answer.{answer_text};
 
-use crate::rows::{push_cost, push_rows};
+use crate::rows::{Parting, push_cost, push_rows};
 use crate::signs::push_signs;
 use phase_field::field::Field;
 use std::alloc::{AllocError, Global};
@@ -25,7 +25,13 @@ pub fn answer(heap: Global, report: &Report<'_>) -> Result<String, AllocError>
 {
     let field = report.field;
     let mut out = String::new(heap);
-    push_rows(&mut out, field.wide, field.high, report.heights)?;
+    push_rows(
+        &mut out,
+        Parting::Space,
+        field.wide,
+        field.high,
+        report.heights,
+    )?;
     push_cost(&mut out, report.cost)?;
     if report.squares {
         push_signs(&mut out, field)?;

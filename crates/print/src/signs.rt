@@ -33,8 +33,8 @@ fn sign_at(field: &Field, expected: &Steps, x: usize, y: usize) -> char
     sign(residue(field, expected, x, y))
 }
 
-// Adds the signs of a row of squares.
-fn push_sign_row(
+/// Adds the signs of a row of squares.
+pub fn push_sign_row(
     out: &mut String,
     field: &Field,
     expected: &Steps,

@@ -3,3 +3,5 @@ pub use Rattle.phase_input.specs.Input
 pub use Rattle.phase_cost.specs.Cost
 pub use Rattle.text.specs.Document
 pub mod Promise
+pub mod Stands
+pub mod Unanswered

@@ -1,29 +1,37 @@
 // What a text is answered with.
 #![tactic(auto)]
 
-ghost use Rattle.std.specs.Prelude.{◌≡◌, map, pos, Some, None, Err, IfOk, string_bytes};
+ghost use Rattle.std.specs.Prelude.{◌≡◌, map, pos, None, IfOk, IfErr, string_bytes};
 ghost use Rattle.phase_field.specs.Model.{field_of};
-ghost use Rattle.phase_input.specs.Input.{verdict};
-ghost use Rattle.phase_input.specs.declared.refusal.Refusal.{Refusal as Why};
 ghost use Rattle.pictures.specs.Picture.{picture_text};
 ghost use Rattle.text.specs.Document.{contents, reading};
-ghost use Rattle.text.specs.declared.document.Unread.TheVariants as unread;
-ghost use Rattle.report.specs.Promise.{input_said, refusal_of, form_text, Solved, Views, Shows};
+ghost use Rattle.print.specs.Rows.{rows_text};
+ghost use Rattle.print.specs.declared.rows.Parting.TheVariants.{Comma};
+ghost use Rattle.report.specs.Promise.{refused_of, unanswered_of, form_text, Solved, Views, Shows};
+ghost use Rattle.report.specs.Unanswered.{Explains};
 
+pub mod stands;
+pub mod unanswered;
+
+use crate::unanswered::Unanswered;
 use phase_field::field::Field;
 use phase_input::input::Input;
 use phase_input::take::take;
 use pictures::{numbers_of, picture};
 use print::answer::{Report, answer};
 use print::heights::heights_of;
+use print::rows::{Parting, push_rows};
+use print_json::answer::answer_json;
 use std::alloc::{AllocError, Global};
-use text::document::{Document, Unread, read};
+use text::document::{Document, read};
 use unwrap::unwrap_field;
 
-/// How heights are shown: as rows of numbers with their cost, or as a picture.
+/// How heights are shown: as rows of numbers with their cost, both as JSON, the heights alone as CSV, or as a picture.
 #[derive(Clone, Copy, PartialEq, Eq, Debug)]
 pub enum Form {
     Rows,
+    Json,
+    Csv,
     Picture,
 }
 
@@ -34,6 +42,24 @@ pub enum View {
     Rings,
 }
 
+// Heights row by row, parted by commas.
+fn table(heap: Global, report: &Report<'_>) -> Result<String, AllocError>
+    ensures { IfOk result (λ s.
+        let r = report.now in
+        string_bytes s ≡ rows_text Comma r.field.now.wide r.field.now.high r.heights.now) }
+{
+    let mut out = String::new(heap);
+    let field = report.field;
+    push_rows(
+        &mut out,
+        Parting::Comma,
+        field.wide,
+        field.high,
+        report.heights,
+    )?;
+    Ok(out)
+}
+
 // The text of heights.
 fn shown(heap: Global, form: Form, report: &Report<'_>) -> Result<String, AllocError>
     ensures { IfOk result (λ s.
@@ -42,6 +68,8 @@ fn shown(heap: Global, form: Form, report: &Report<'_>) -> Result<String, AllocE
 {
     match form {
         Form::Rows => answer(heap, report),
+        Form::Json => answer_json(heap, report),
+        Form::Csv => table(heap, report),
         Form::Picture => picture(heap, report.field.wide, report.field.high, report.heights),
     }
 }
@@ -94,32 +122,31 @@ fn view_text(
     }
 }
 
-/// What is shown of a document, or why it is refused, unless there is no memory for it.
-pub fn answer_to(heap: Global, document: &Document, view: View) -> Result<String, Unread>
+/// What is shown of a document, or why there is no answer.
+pub fn answer_to(heap: Global, document: &Document, view: View) -> Result<String, Unanswered>
     ensures shown { IfOk result (λ s. Shows view (contents document.now) (string_bytes s)) }
-    ensures taken { IfOk result (λ _. verdict (input_said (contents document.now)) ≡ None) }
-    ensures refused { (why : Why) → result ≡ Err (unread.Refused why) →
-        verdict (input_said (contents document.now)) ≡ Some why }
+    ensures taken { IfOk result (λ _. refused_of (contents document.now) ≡ None) }
+    ensures refused { IfErr result (Explains (refused_of (contents document.now))) }
 {
+    let picture = document.picture(heap)?;
     let input = Input {
-        wide: document.wide,
-        high: document.high,
+        wide: picture.wide,
+        high: picture.high,
         turn: document.turn,
-        seen: document.seen.as_slice(),
-        right: document.right.as_slice(),
-        below: document.below.as_slice(),
+        seen: picture.seen.as_slice(),
+        right: picture.right.as_slice(),
+        below: picture.below.as_slice(),
     };
     let field = take(&input, input.seen.len() as u64)?;
     Ok(view_text(heap, &field, input.seen, view, document.squares)?)
 }
 
-/// What is shown of the document that a text is, or why it is refused, unless there is no memory for it.
-pub fn answer_to_text(heap: Global, text: &[u8], view: View) -> Result<String, Unread>
+/// What is shown of the document that a text is, or why there is no answer.
+pub fn answer_to_text(heap: Global, text: &[u8], view: View) -> Result<String, Unanswered>
     ensures shown { IfOk result (λ s.
         IfOk (reading text.now) (λ d. Shows view d (string_bytes s))) }
-    ensures taken { IfOk result (λ _. refusal_of (reading text.now) ≡ None) }
-    ensures refused { (why : Why) → result ≡ Err (unread.Refused why) →
-        refusal_of (reading text.now) ≡ Some why }
+    ensures taken { IfOk result (λ _. unanswered_of (reading text.now) ≡ None) }
+    ensures refused { IfErr result (Explains (unanswered_of (reading text.now))) }
 {
     let document = read(heap, text)?;
     answer_to(heap, &document, view)

@@ -1,4 +1,4 @@
--- What is promised of sums. Each is a statement, a type whose proof is owed.
+-- What is promised of sums. `Exchange` is the contract of `sums_exchange`.
 use Rattle.std.specs.Prelude.{◌≡◌, ℕ, ℤ}
 use Rattle.sums.specs.Sum.{sum_ℤ}
 

@@ -3,7 +3,7 @@
 
 ghost use Rattle.sums.specs.Promise.{Exchange};
 
-// A table adds up to the same by rows and by columns.
+/// A table of whole numbers adds up to the same by rows and by columns: the order of two sums may be exchanged.
 pub fn sums_exchange()
     ensures { Exchange }
 {}

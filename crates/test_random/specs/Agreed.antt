@@ -17,3 +17,13 @@ Agreed t (Refused n) room = ⊥
 abbrev pub Costs : Done → Type 0
 Costs (Back c) = 0 < c
 Costs (Refused n) = ⊥
+
+-- of turns that were put back into what the trial lends
+pub record AgreesOnce (t : Trial) : Type 0 where
+  pub done : Done
+  pub room : List ℤ
+  pub agreed : Agreed t done room
+
+pub record CostsOnce : Type 0 where
+  pub done : Done
+  pub costs : Costs done

@@ -16,6 +16,7 @@ pub struct Outcome {
     pub refused: bool,
 }
 
+/// How many trials there were, and of how many of them each fact of an `Outcome` is true.
 #[derive(Drop, Default)]
 pub struct Counts {
     pub fields: u32,

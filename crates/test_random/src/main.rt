@@ -1,20 +1,21 @@
 // Turns put back into drawn fields, held to what trying all turns gives.
 #![tactic(auto)]
 
-ghost use Rattle.std.specs.Prelude.{◌≤◌, ◌↔◌, IsTrue};
-ghost use Rattle.test_random.specs.Agreed.{Agreed, Costs};
+ghost use Rattle.std.specs.Prelude.{◌+◌, ◌-◌, ◌≤◌, ◌↔◌, IsTrue};
+ghost use Rattle.test_random.specs.Left.{RefusesRoom};
+ghost use Rattle.test_random.specs.Agreed.{Agreed, AgreesOnce, Costs, CostsOnce};
 
 mod counts;
 mod draw;
 mod room;
 mod trial;
 
+use brute_force::agrees;
 use counts::{Counts, Outcome};
 use draw::{Draws, Prices};
 use room::left_alone;
 use std::io;
 use trial::Trial;
-use brute_force::agrees;
 use unwrap::Done;
 
 // What no turns for so few places are.
@@ -43,6 +44,7 @@ fn back_agrees(trial: &Trial, done: Done, turns: &[i64]) -> bool
 // Whether a room of so many numbers is turned away.
 fn room_refused(trial: &Trial, long: usize) -> bool
     requires { long ≤ 7 }
+    ensures { IsTrue result → RefusesRoom long }
 {
     let mut room = [MARK; 7];
     let turns = &mut room[0..long];
@@ -51,7 +53,12 @@ fn room_refused(trial: &Trial, long: usize) -> bool
 }
 
 // Puts turns back into a field, and holds what is answered to what trying gives.
-fn try_field(trial: &Trial) -> Outcome {
+fn try_field(trial: &Trial) -> Outcome
+    ensures agreed { IsTrue result.agreed → AgreesOnce trial.now }
+    ensures costly { IsTrue result.costly → CostsOnce }
+    ensures fewer { IsTrue result.refused → RefusesRoom (trial.now.places - 1) }
+    ensures more { IsTrue result.refused → RefusesRoom (trial.now.places + 1) }
+{
     let mut room = [MARK; 6];
     let turns = &mut room[0..trial.places];
     let done = trial.put_back(turns);

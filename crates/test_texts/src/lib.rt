@@ -3,17 +3,20 @@
 
 #[cfg(test)]
 mod tests {
+    use print::rows::{Parting, push_rows};
+    use report::stands::stands_at;
     use report::{Form, View, answer_to_text};
-    use print::rows::push_rows;
     use std::alloc::Global;
     use std::test::Fail;
-    use text::document::Unread;
+    use text_locate::place::place_of;
 
     // The number and the place of a refusal; None where the text is taken. Here and below the heap is handed on with a text to one call.
     fn refused(heap: Global, text: &[u8]) -> Option<(u64, u64)> {
         match answer_to_text(heap, text, View::Heights(Form::Rows)) {
-            Err(Unread::Refused(refusal)) => Some((refusal.number(), refusal.place())),
-            _ => None,
+            Err(why) => why
+                .refusal()
+                .map(|refusal| (refusal.number(), refusal.place())),
+            Ok(_) => None,
         }
     }
 
@@ -103,6 +106,13 @@ mod tests {
                 "1 4 7\n2 5 8\ncost 0\n",
             )
         );
+        assert!(rt;
+            heights(
+                heap,
+                b"\xef\xbb\xbfturn 10\r1 4 7\r2 5 8\rprice 1\r",
+                "1 4 7\n2 5 8\ncost 0\n",
+            )
+        );
     }
 
     #[test]
@@ -128,9 +138,50 @@ mod tests {
     fn rows_may_lack_numbers(rt: HostRuntime) -> Result<(), Fail> {
         let heap = rt.alloc();
         let mut out = String::new(heap);
-        push_rows(&mut out, 2, 3, &[1, 2, 3])?;
+        push_rows(&mut out, Parting::Space, 2, 3, &[1, 2, 3])?;
         assert_eq!(rt; out.as_str(), "1 2\n3\n\n");
         Ok(())
+    }
+
+    #[test]
+    fn answers_have_other_forms(rt: HostRuntime) {
+        let heap = rt.alloc();
+        let text = b"turn 10\n1 4 7 0\n2 5 8 1\nprice 1\n";
+        assert!(rt;
+            answers(
+                heap,
+                text,
+                View::Heights(Form::Csv),
+                "1,4,7,10\n2,5,8,11\n",
+            )
+        );
+        assert!(rt;
+            answers(
+                heap,
+                text,
+                View::Heights(Form::Json),
+                "{\"command\":\"unwrap\",\"cost\":0,\"heights\":[[1,4,7,10],[2,5,8,11]],\"high\":2,\"turn\":10,\"wide\":4}\n",
+            )
+        );
+    }
+
+    // The word at which a text is refused, with its line and column, counted from 0.
+    fn stands(heap: Global, text: &[u8]) -> Option<(usize, usize)> {
+        let why = answer_to_text(heap, text, View::Heights(Form::Rows)).err()?;
+        let place = place_of(text, stands_at(heap, text, why)?)?;
+        Some((place.line, place.column))
+    }
+
+    #[test]
+    fn refusals_have_places_in_the_text(rt: HostRuntime) {
+        let heap = rt.alloc();
+        assert_eq!(rt;
+            stands(heap, b"turn 10\n 1 4\n2  10\nprice 1\n"),
+            Some((2, 3))
+        );
+        assert_eq!(rt; stands(heap, b"turn 10\n1 4\n1 1\n1 1001\n"), Some((3, 2)));
+        assert_eq!(rt; stands(heap, b"turn 10\n1 4\n1 1\n"), None);
+        assert_eq!(rt; stands(heap, b"\xef\xbb\xbfturn -3\n"), Some((0, 5)));
     }
 
     #[test]

@@ -1,4 +1,2 @@
-pub mod Cuts
 pub mod Reader
-pub mod Readings
 pub mod Rows

@@ -1,65 +1,59 @@
 -- What has been read of a document, line by line.
-use Rattle.std.specs.Prelude.{◌≡◌, ℕ, ◌-◌, Bool, true, false, if◌then◌else◌, ◌||◌, List, [], length, Some, None, Ok, Err, vec_items, Option, Result, ◌==◌}
+use Rattle.std.specs.Prelude.{◌≡◌, ℕ, Bool, true, false, List, [], map, Some, None, Ok, Err, vec_items, Option, Result}
+use Rattle.text_words.specs.Numeral.{capped, largest_entry}
+use Rattle.text_words.specs.Pieces.{words}
 use Rattle.text.specs.declared.draft.Draft.{Draft}
-use Rattle.text.specs.declared.fault.Fault.{Fault}
-use Rattle.text.specs.declared.fault.Fault.TheVariants.{Unreadable, Memory}
-use Rattle.text.specs.declared.kind.Kind.{Kind}
-use Rattle.text.specs.declared.kind.Kind.TheVariants.{Nothing, Turn, Price, Squares, Row}
-use Rattle.text.specs.Kind.{kind_of}
-use Rattle.std.specs.Option.{option_and_then}
-use Rattle.text.specs.Numeral.{capped, largest_entry}
-use Rattle.text.specs.Pieces.{words}
-use Rattle.text.specs.Row.{row_onto}
+use Rattle.text_lines.specs.declared.flaw.Flaw.{Flaw}
+use Rattle.text_lines.specs.declared.flaw.Flaw.TheVariants.{SecondTurn}
+use Rattle.text_lines.specs.declared.flaw.Fault.{Fault}
+use Rattle.text_lines.specs.declared.kind.Kind.{Kind}
+use Rattle.text_lines.specs.declared.kind.Kind.TheVariants.{Nothing, Turn, Price, Squares, Row}
+use Rattle.text_lines.specs.Flaw.{and_then, mapped, Stops}
+use Rattle.text_lines.specs.Kind.{kind_of}
+use Rattle.text.specs.Section.{Block, block, empty_picture, with_row, with_price}
 
--- the turn and the price where there were any, whether the squares are asked for, how wide rows are (0 before the first), and the
--- numbers of all rows
+-- the turn where there was one, whether the squares are asked for, the sections that have ended, and the one that rows go to
 pub record Notes : Type 0 where
   pub turn : Option ℕ
-  pub price : Option ℕ
   pub squares : Bool
-  pub wide : ℕ
-  pub numbers : List ℕ
+  pub before : List Block
+  pub rows : Block
 
 abbrev pub blank : Notes
-blank = record { turn = None; price = None; squares = false; wide = 0; numbers = [] }
+blank = record { turn = None; squares = false; before = []; rows = empty_picture }
 
 abbrev pub notes : Draft → Notes
-notes d = record { turn = d.turn; price = d.price; squares = d.squares; wide = d.wide; numbers = vec_items d.numbers }
+notes d = record { turn = d.turn; squares = d.squares; before = map block (vec_items d.before); rows = block d.rows }
 
 -- nothing is there, or else the text says it twice
-abbrev pub unless : {A B : Type 0} → Option A → B → Option B
-unless None b = Some b
-unless (Some a) b = None
+abbrev pub unless : {A B : Type 0} → Option A → Flaw → B → Result B Flaw
+unless None why b = Ok b
+unless (Some a) why b = Err why
 
-abbrev pub with_turn : Notes → ℕ → Option Notes
-with_turn d n = unless d.turn (record d { turn = Some n })
+abbrev pub with_turn : Notes → ℕ → Result Notes Flaw
+with_turn d n = unless d.turn SecondTurn (record d { turn = Some n })
 
-abbrev pub with_price : Notes → ℕ → Option Notes
-with_price d n = unless d.price (record d { price = Some (capped largest_entry n) })
+abbrev pub with_rows : Notes → Block → Notes
+with_rows d b = record d { rows = b }
 
-abbrev pub with_squares : Notes → Notes
-with_squares d = record d { squares = true }
+abbrev pub with_price_of : Notes → ℕ → Result Notes Flaw
+with_price_of d n = mapped (with_rows d) (with_price d.rows (capped largest_entry n))
 
--- the first row says how wide rows are
-abbrev pub as_wide : Notes → ℕ → List ℕ → Option Notes
-as_wide d w all = if d.wide == 0 || w == d.wide then Some (record d { wide = w; numbers = all }) else None
+abbrev pub with_row_of : Notes → List (List ℕ) → Result Notes Flaw
+with_row_of d ws = mapped (with_rows d) (with_row d.rows ws)
 
-abbrev pub with_row : Notes → List (List ℕ) → Option Notes
-with_row d ws = option_and_then (λ all. as_wide d (length all - length d.numbers) all) (row_onto d.numbers ws)
-
-abbrev pub step_by : Notes → List (List ℕ) → Kind → Option Notes
-step_by d ws Nothing = Some d
+abbrev pub step_by : Notes → List (List ℕ) → Kind → Result Notes Flaw
+step_by d ws Nothing = Ok d
 step_by d ws (Turn n) = with_turn d n
-step_by d ws (Price n) = with_price d n
-step_by d ws Squares = Some (with_squares d)
-step_by d ws Row = with_row d ws
+step_by d ws (Price n) = with_price_of d n
+step_by d ws Squares = Ok (record d { squares = true })
+step_by d ws Row = with_row_of d ws
 
--- one line more; None where it can't be read
-abbrev pub step : Notes → List ℕ → Option Notes
-step d line = option_and_then (step_by d (words line)) (kind_of (words line))
+-- one line more, or why it can't be read
+abbrev pub step : Notes → List ℕ → Result Notes Flaw
+step d line = and_then (step_by d (words line)) (kind_of (words line))
 
--- the draft is what is there, or it can't be read and nothing is there, unless there is no memory for it
-abbrev pub Drafted : Option Notes → Result Draft Fault → Type 0
-Drafted o (Ok d) = o ≡ Some (notes d)
-Drafted o (Err Unreadable) = o ≡ None
-Drafted o (Err Memory) = Unit {0}
+-- the draft is what is there, or it can't be read, unless there is no memory for it
+abbrev pub Drafted : Result Notes Flaw → Result Draft Fault → Type 0
+Drafted r (Ok d) = r ≡ Ok (notes d)
+Drafted r (Err f) = Stops r f

@@ -1,6 +1,4 @@
 pub mod Document
 pub mod Draft
-pub mod Kind
-pub mod Numeral
-pub mod Pieces
-pub mod Row
+pub mod Picture
+pub mod Section

@@ -1,10 +1,7 @@
-// Texts and fields: reading what a person wrote, and printing the answer.
+// Documents: what a text says, line by line.
 #![tactic(auto)]
 
 pub mod document;
 pub mod draft;
-pub mod fault;
-pub mod kind;
-pub mod numeral;
-pub mod pieces;
-pub mod row;
+pub mod picture;
+pub mod section;

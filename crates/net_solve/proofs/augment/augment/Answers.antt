@@ -33,12 +33,12 @@ lower-requires-clause-near c =
 pub lower-requires-clause-bound : goal.lower-requires-clause-bound
 lower-requires-clause-bound c =
     let net = c.args.flow.now.net in let F = c.find.ensures in
-    bound_fits (graph net) net.formed.laws (state c.args.flow.now) c.requires.sound (tree c.find.new.self) F.paths F.shortest _ F.radius (omega (arith, ints, c.requires.near)) (some_found _ c.find.result F.found (search rules))
+    bound_fits (graph net) net.formed.laws (state c.args.flow.now) c.requires.sound (tree c.find.new.self) F.paths F.shortest _ F.radius (omega (arith, ints, c.requires.radius_most)) (some_found _ c.find.result F.found (search rules))
 
 is_ready : (c : goal.After-flow-1) → Ready (graph c.args.flow.now.net) (record { flow = (state c.args.flow.now).flow; excess = excess_of c.lower.new.nodes; potential = potential_of c.lower.new.nodes }) (tree c.find.new.self)
 is_ready c =
     let F = c.find.ensures in
-    ready c.args.flow.now c.find.new.self c.lower.new.nodes c.requires.sound F.paths F.shortest _ F.radius (omega (arith, ints, c.requires.near)) (some_found _ c.find.result F.found (search rules)) c.lower.ensures.lowered c.lower.ensures.excess
+    ready c.args.flow.now c.find.new.self c.lower.new.nodes c.requires.sound F.paths F.shortest _ F.radius (omega (arith, ints, c.requires.radius_most)) (some_found _ c.find.result F.found (search rules)) c.lower.ensures.lowered c.lower.ensures.excess
 
 pub bottleneck-amount-requires-clause-sound : goal.bottleneck-amount-requires-clause-sound
 bottleneck-amount-requires-clause-sound c = (is_ready c).sound
@@ -49,7 +49,7 @@ bottleneck-amount-requires-clause-found c = (is_ready c).found
 may_push : (c : goal.After-push_along-arg-1) → Ready (graph c.args.flow.now.net) (record { flow = (state c.args.flow.now).flow; excess = excess_of c.lower.new.nodes; potential = potential_of c.lower.new.nodes }) (tree c.find.new.self)
 may_push c =
     let F = c.find.ensures in
-    ready c.args.flow.now c.find.new.self c.lower.new.nodes c.requires.sound F.paths F.shortest _ F.radius (omega (arith, ints, c.requires.near)) (some_found _ c.find.result F.found (search rules)) c.lower.ensures.lowered c.lower.ensures.excess
+    ready c.args.flow.now c.find.new.self c.lower.new.nodes c.requires.sound F.paths F.shortest _ F.radius (omega (arith, ints, c.requires.radius_most)) (some_found _ c.find.result F.found (search rules)) c.lower.ensures.lowered c.lower.ensures.excess
 
 pub push_along-requires-clause-sound : goal.push_along-requires-clause-sound
 push_along-requires-clause-sound c = (may_push c).sound
@@ -65,7 +65,7 @@ push_along-requires-clause-few c =
 all : (c : goal.After-push_along) → Augmented (graph c.args.flow.now.net) (state c.args.flow.now) (state c.push_along.new.flow)
 all c =
     let net = c.args.flow.now.net in let F = c.find.ensures in let E = c.bottleneck-amount.ensures in
-    let R = ready c.args.flow.now c.find.new.self c.lower.new.nodes c.requires.sound F.paths F.shortest _ F.radius (omega (arith, ints, c.requires.near)) (some_found _ c.find.result F.found (search rules)) c.lower.ensures.lowered c.lower.ensures.excess in
+    let R = ready c.args.flow.now c.find.new.self c.lower.new.nodes c.requires.sound F.paths F.shortest _ F.radius (omega (arith, ints, c.requires.radius_most)) (some_found _ c.find.result F.found (search rules)) c.lower.ensures.lowered c.lower.ensures.excess in
     augmented (graph net) net.formed.laws (state c.args.flow.now) (excess_of c.lower.new.nodes) (potential_of c.lower.new.nodes) (sym (fun_ext c.lower.ensures.excess)) R.sound (tree c.find.new.self) R.found _
     (omega (arith, ints, E.some)) (omega (arith, ints, E.source)) (omega (arith, ints, E.target)) (state c.push_along.new.flow) c.push_along.ensures.potential c.push_along.ensures.walked
 

@@ -2,7 +2,7 @@ use Rattle.std.proofs.Common.{◌≡◌}
 use Rattle.net_graph.specs.Network.{graph}
 use Rattle.net_graph.specs.Sound.{state}
 use Rattle.net_search.specs.Tree.{tree}
-use Rattle.net_solve.specs.Inner.{IsBottleneck}
+use Rattle.net_solve.proofs.Bottleneck.{IsBottleneck}
 use Rattle.net_solve.proofs.augment.bottleneck.Given as goal
 
 abbrev pub invariant-loop-a : goal.invariant-loop-a

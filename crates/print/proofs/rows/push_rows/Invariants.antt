@@ -4,6 +4,6 @@ use Rattle.print.proofs.rows.push_rows.Given as goal
 
 abbrev pub invariant-loop-y : goal.invariant-loop-y
 invariant-loop-y l = record {
-  printed : string_bytes l.out ≡ string_bytes l.initial.out ++ rows_text l.wide l._y l.list;
+  printed : string_bytes l.out ≡ string_bytes l.initial.out ++ rows_text l.parting l.wide l._y l.list;
   left : l.rest ≡ drop (l._y * l.wide) l.list;
 }

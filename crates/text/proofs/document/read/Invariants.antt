@@ -1,5 +1,5 @@
 use Rattle.std.proofs.Common.{◌≡◌, ◌+◌, ◌≤◌, length}
-use Rattle.text.specs.Pieces.{lines}
+use Rattle.text_words.specs.Pieces.{lines}
 use Rattle.text.specs.Draft.{notes}
 use Rattle.text.specs.Document.{read_from, reading}
 use Rattle.text.proofs.document.read.Given as goal

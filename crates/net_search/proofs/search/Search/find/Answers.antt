@@ -13,10 +13,10 @@ pub loop-u-init : goal.loop-u-init
 loop-u-init c =
     let net = c.args.flow.now.net in let B = c.begin.ensures in let q = c.begin.new.self in
     let ahead : pos 0 ≤ℤ q.radius = omega (arith, ints, B.radius, c.requires.ahead) in
-    let near : q.radius ≤ℤ infinity = omega (arith, ints, B.radius, c.requires.near) in
+    let most : q.radius ≤ℤ infinity = omega (arith, ints, B.radius, c.requires.radius_most) in
     record {
       slices = search rules;
-      searching = begins (graph net) (state c.args.flow.now) (tree q) (rw B.source c.requires.source) (rw B.source c.requires.excess) ahead near (rw c.requires.lengths at B.begun);
+      searching = begins (graph net) (state c.args.flow.now) (tree q) (rw B.source c.requires.source) (rw B.source c.requires.excess) ahead most (rw c.requires.lengths at B.begun);
       source = search rules;
       radius = search rules;
     }

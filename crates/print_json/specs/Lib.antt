@@ -1,0 +1,4 @@
+pub mod Answer
+pub mod Line
+pub mod Refused
+pub mod Rows

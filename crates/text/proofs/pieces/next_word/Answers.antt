@@ -1,6 +1,0 @@
-use Rattle.std.proofs.Common.{true-eqb}
-use Rattle.text.proofs.Cuts.{words_none}
-use Rattle.text.proofs.pieces.next_word.Goals as goal
-
-pub returns : goal.returns
-returns c = words_none c.loop-rest.rest.now c.args.line.now (true-eqb _ 0 c.loop-rest-test.ensures) c.loop-rest.invariant.0
