@@ -124,3 +124,80 @@ inline void reprice(Random &r, Field &f, uint32_t most, uint32_t percent_free) {
             price = is_free ? 0 : percent_free > 0 ? 1 + below_or_at(r, most - 1) : below_or_at(r, most);
         }
 }
+
+// ---- fields made to hurt
+
+// Every price one of two, as likely as not.
+inline Field two_prices(Random &r, size_t wide, size_t high, uint32_t turn, uint32_t low, uint32_t dear) {
+    Field f = noise(r, wide, high, turn);
+    for (auto *prices : {&f.right, &f.below})
+        for (uint32_t &price : *prices) price = r() % 2 ? low : dear;
+    return f;
+}
+
+// Prices between two, so that many ways cost nearly the same.
+inline Field prices_between(Random &r, size_t wide, size_t high, uint32_t turn, uint32_t low, uint32_t dear) {
+    Field f = noise(r, wide, high, turn);
+    for (auto *prices : {&f.right, &f.below})
+        for (uint32_t &price : *prices) price = low + below_or_at(r, dear - low);
+    return f;
+}
+
+// At turn 4 the numbers 0 1 over 3 2, again and again: round each square it is a turn, one way and the other in turn.
+inline Field every_square_off(Random &r, size_t wide, size_t high, uint32_t) {
+    Field f = noise(r, wide, high, 4);
+    for (size_t y = 0; y < high; y++)
+        for (size_t x = 0; x < wide; x++) {
+            static const uint32_t tile[2][2] = {{0, 1}, {3, 2}};
+            f.seen[f.at(x, y)] = tile[y % 2][x % 2];
+        }
+    reprice(r, f, 1000, 0);
+    return f;
+}
+
+// Heights that wind one way round points near one corner, and the other way round as many near the opposite one.
+inline Field far_corners(Random &r, size_t wide, size_t high, uint32_t turn) {
+    std::vector<std::pair<double, double>> points;
+    for (int i = 0; i < 12; i++) {
+        double x = uniform(r, 0.05, 0.2) * double(wide), y = uniform(r, 0.05, 0.2) * double(high);
+        if (i % 2) x = double(wide) - x, y = double(high) - y;
+        points.emplace_back(std::floor(x) + 0.5, std::floor(y) + 0.5);
+    }
+    Field f = seen_of(r, wide, high, turn,
+                      [&](double x, double y) {
+                          double h = 0;
+                          for (size_t i = 0; i < points.size(); i++)
+                              h += (i % 2 ? 1 : -1) * std::atan2(y - points[i].second, x - points[i].first) / (2 * M_PI);
+                          return h;
+                      },
+                      [](double, double) { return 0.0; });
+    reprice(r, f, 1000, 0);
+    return f;
+}
+
+// Heights that wind one way round all points, which lie within, and a border that is dear to cross.
+inline Field dear_border(Random &r, size_t wide, size_t high, uint32_t turn) {
+    std::vector<std::pair<double, double>> points;
+    for (int i = 0; i < 8; i++)
+        points.emplace_back(std::floor(uniform(r, 0.35, 0.65) * double(wide)) + 0.5, std::floor(uniform(r, 0.35, 0.65) * double(high)) + 0.5);
+    Field f = seen_of(r, wide, high, turn,
+                      [&](double x, double y) {
+                          double h = 0;
+                          for (auto &point : points) h += std::atan2(y - point.second, x - point.first) / (2 * M_PI);
+                          return h;
+                      },
+                      [](double, double) { return 0.0; });
+    for (size_t y = 0; y < high; y++)
+        for (size_t x = 0; x < wide; x++) {
+            bool edge = x < 2 || y < 2 || x + 3 > wide || y + 3 > high;
+            f.right[f.at(x, y)] = edge ? 1000 : 1 + below_or_at(r, 9);
+            f.below[f.at(x, y)] = edge ? 1000 : 1 + below_or_at(r, 9);
+        }
+    return f;
+}
+
+inline Field some_free(Random &r, size_t wide, size_t high, uint32_t turn, uint32_t percent_free) {
+    Field f = noise(r, wide, high, turn);
+    reprice(r, f, 1000, percent_free);
+    return f;
+}

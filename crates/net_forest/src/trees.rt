@@ -16,7 +16,8 @@ fn add(
 )
     requires node { v < length tree_nodes.old }
     requires lengths { found.old < length order.old }
-    ensures { NodeAdded tree_nodes.old tree_nodes.new order.old order.new found.old found.new v node }
+    ensures { NodeAdded tree_nodes.old tree_nodes.new order.old order.new found.old found.new v
+        node }
 {
     tree_nodes[v] = node;
     order[*found] = v;

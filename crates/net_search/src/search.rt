@@ -32,7 +32,8 @@ pub struct Search<'m, 'o, 'f> {
     pub target: usize,
     ghost same_len: { length labels.now ≡ length order.now },
     ghost as_long: { length frontier.now ≡ length order.now },
-    ghost listed: { Listed (length order.now) (distance_of labels.now) (place_of labels.now) (node_at order.now) (node_at frontier.now)
+    ghost listed: { Listed (length order.now) (distance_of labels.now) (place_of labels.now)
+        (node_at order.now) (node_at frontier.now)
         reached waiting },
 }
 

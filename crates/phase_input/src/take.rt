@@ -8,14 +8,13 @@ use crate::input::Input;
 use crate::refusal::Refusal;
 use phase_field::field::{Field, PLACES};
 
-// The list by value, with 0 past its end.
-fn copied(list: &[u32]) -> [u32; PLACES]
-    requires { length list.now ≤ 4096 }
-    ensures { (k : ℕ) → slice_index result k ≡ slice_index list.now k }
+// Puts a list where there are only 0s.
+fn put(list: &[u32], all: &mut [u32; PLACES])
+    requires few { length list.now ≤ 4096 }
+    requires none { (k : ℕ) → slice_index all.old k ≡ 0 }
+    ensures { (k : ℕ) → slice_index all.new k ≡ slice_index list.now k }
 {
-    let mut all = [0; PLACES];
     all[..list.len()].copy_from_slice(list);
-    all
 }
 
 /// The field that is lent, or why it is refused, with a room of so many numbers for its turns.
@@ -27,13 +26,19 @@ pub fn take(input: &Input<'_, '_, '_>, room: u64) -> Result<Field, Refusal>
 {
     match input.verdict(room) {
         Some(refusal) => Err(refusal),
-        None => Ok(Field {
-            wide: input.wide as usize,
-            high: input.high as usize,
-            turn: input.turn as u32,
-            seen: copied(input.seen),
-            right: copied(input.right),
-            below: copied(input.below),
-        }),
+        None => {
+            let mut field = Field {
+                wide: input.wide as usize,
+                high: input.high as usize,
+                turn: input.turn as u32,
+                seen: [0; PLACES],
+                right: [0; PLACES],
+                below: [0; PLACES],
+            };
+            put(input.seen, &mut field.seen);
+            put(input.right, &mut field.right);
+            put(input.below, &mut field.below);
+            Ok(field)
+        }
     }
 }

@@ -1,5 +1,5 @@
 -- Rows and rooms that follow steps, as loops write them.
-use Rattle.std.proofs.Common.{◌≡◌, ℕ, ◌+◌, ◌-◌, ◌*◌, ◌<◌, ◌≤◌, List, length, get_or, set, ℤ, pos, ◌+ℤ◌, nat_abs, sym, ap, ◌∙◌, subst, ⊎_elim, add-zero, mul_comm, mul-one, mul-add, arith, get_or-set_other, get_or-set_same}
+use Rattle.std.proofs.Common.{◌≡◌, ℕ, ◌+◌, ◌*◌, ◌^◌, ◌<◌, ◌≤◌, List, length, get_or, set, ℤ, pos, ◌+ℤ◌, nat_abs, sym, ap, ◌∙◌, subst, ⊎_elim, add-zero, mul_comm, arith, get_or-set_other, get_or-set_same}
 use Rattle.std.proofs.lemmas.Int.{ints}
 use Rattle.std.proofs.lemmas.Bool.{cases_eq, cases_lt}
 use Rattle.std.proofs.lemmas.List.{get_or_past}
@@ -13,43 +13,34 @@ use Rattle.phase_field.specs.Model.{Row}
 use Rattle.phase_field.proofs.Parts.{row_ends, written_in, written_before}
 use Rattle.phase_cost.specs.Steps.{integral}
 use Rattle.phase_cost.proofs.Integral.{integral_first}
-use Rattle.phase_turns.specs.Follow.{StepsSmall, Follows, Integrated}
+use Rattle.phase_turns.specs.Follow.{StepsFew, Follows, Integrated}
 
 -- the first numbers of a row are written, and this comes next
 pub record Following (start : ℤ) (ds us : List ℤ) (x : ℕ) (next : ℤ) : Type 0 where
   pub is : next ≡ start +ℤ sum_ℤ x (λ i. get_or ds i (pos 0))
-  pub small : nat_abs next ≤ 516159 + x * 8193
+  pub small : nat_abs next ≤ 2 ^ 59 + x * 2 ^ 50
   pub before : (k : ℕ) → k < x → get_or us k (pos 0) ≡ start +ℤ sum_ℤ k (λ i. get_or ds i (pos 0))
-  pub before_small : (k : ℕ) → k < x → nat_abs (get_or us k (pos 0)) ≤ 1032318
 
-pub follow_none : (start : ℤ) (ds us : List ℤ) → nat_abs start ≤ 516159 → Following start ds us 0 start
+pub follow_none : (start : ℤ) (ds us : List ℤ) → nat_abs start ≤ 2 ^ 59 → Following start ds us 0 start
 follow_none start ds us l = record {
   is = omega (arith, ints, sum_ℤ_none (λ i. get_or ds i (pos 0)));
   small = omega arith;
   before = λ k h. absurd (omega arith);
-  before_small = λ k h. absurd (omega arith);
 }
 
-pub follow_more : (start : ℤ) (ds us : List ℤ) (x : ℕ) (next v then : ℤ) → Following start ds us x next → x < length us → x < 64 → StepsSmall ds →
+pub follow_more : (start : ℤ) (ds us : List ℤ) (x : ℕ) (next v then : ℤ) → Following start ds us x next → x < length us → x < 512 → StepsFew ds →
     v ≡ next → then ≡ next +ℤ get_or ds x (pos 0) → Following start ds (set us x v) (x + 1) then
 follow_more start ds us x next v then f l m s e h = record {
   is = omega (arith, ints, f.is, sum_ℤ_more x (λ i. get_or ds i (pos 0)));
   small = omega (arith, ints, f.small, s x);
   before = λ k n. at k n;
-  before_small = λ k n. at_small k n;
 }
   where
     at : (k : ℕ) → k < x + 1 → get_or (set us x v) k (pos 0) ≡ start +ℤ sum_ℤ k (λ i. get_or ds i (pos 0))
     at k n = grind (arith, get_or-set_same, get_or-set_other, cases_eq k x, f.before k, f.is)
 
-    at_small : (k : ℕ) → k < x + 1 → nat_abs (get_or (set us x v) k (pos 0)) ≤ 1032318
-    at_small k n = grind (arith, get_or-set_same, get_or-set_other, cases_eq k x, f.before_small k, f.small)
-
 pub follow_all : (start : ℤ) (ds us : List ℤ) (x : ℕ) (next : ℤ) → x ≡ length us → Following start ds us x next → Follows start ds us
 follow_all start ds us x next e f = record { at = λ k l. f.before k (omega arith) }
-
-pub follow_all_small : (start : ℤ) (ds us : List ℤ) (x : ℕ) (next : ℤ) → x ≡ length us → Following start ds us x next → (k : ℕ) → nat_abs (get_or us k (pos 0)) ≤ 1032318
-follow_all_small start ds us x next e f k = grind (arith, get_or_past, f.before_small k)
 
 by_lt : {P : Type 0} (a b : ℕ) → (a < b → P) → (b ≤ a → P) → P
 by_lt a b p q = ⊎_elim p q (cases_lt a b)
@@ -57,16 +48,14 @@ by_lt a b p q = ⊎_elim p q (cases_lt a b)
 -- the first rows of a room are written, and the next one begins with this
 pub record RowsFollowed (w : ℕ) (ds bs room : List ℤ) (y : ℕ) (next : ℤ) : Type 0 where
   pub is : next ≡ sum_ℤ y (λ j. turns_in w bs 0 j)
-  pub small : nat_abs next ≤ y * 8193
+  pub small : nat_abs next ≤ y * 2 ^ 50
   pub at : (x j : ℕ) → x < w → j < y → turns_in w room x j ≡ integral (turns_in w ds) (turns_in w bs) x j
-  pub at_small : (k : ℕ) → k < w * y → nat_abs (get_or room k (pos 0)) ≤ 1032318
 
 pub rows_none : (w : ℕ) (ds bs room : List ℤ) → RowsFollowed w ds bs room 0 (pos 0)
 rows_none w ds bs room = record {
   is = sym (sum_ℤ_none (λ j. turns_in w bs 0 j));
   small = omega arith;
   at = λ x j k l. absurd (omega arith);
-  at_small = λ k l. absurd (omega (arith, mul_comm w 0));
 }
 
 -- a row of the integral
@@ -78,14 +67,13 @@ row_integral w ds bs row x y next l e r =
     cc
 
 rows_more_at : (w h : ℕ) (ds bs room row us : List ℤ) (y : ℕ) (next then : ℤ) → RowsFollowed w ds bs room y next → y < h → length room ≡ w * h →
-    Row w y ds row → length us ≡ w → Follows next row us → ((k : ℕ) → nat_abs (get_or us k (pos 0)) ≤ 1032318) →
-    StepsSmall bs → then ≡ next +ℤ get_or bs (y * w) (pos 0) → RowsFollowed w ds bs (put_mid (y * w) w room us) (y + 1) then
+    Row w y ds row → length us ≡ w → Follows next row us →
+    StepsFew bs → then ≡ next +ℤ get_or bs (y * w) (pos 0) → RowsFollowed w ds bs (put_mid (y * w) w room us) (y + 1) then
 unfolding turns_in
-rows_more_at w h ds bs room row us y next then f l n r m g s b e = record {
+rows_more_at w h ds bs room row us y next then f l n r m g b e = record {
   is = then_is;
   small = omega (arith, ints, f.small, b (y * w));
   at = at_all;
-  at_small = small_all;
 }
   where
     ends : y * w + w ≤ length room
@@ -100,22 +88,18 @@ rows_more_at w h ds bs room row us y next then f l n r m g s b e = record {
     at_all : (x j : ℕ) → x < w → j < y + 1 → get_or (put_mid (y * w) w room us) (j * w + x) (pos 0) ≡ integral (turns_in w ds) (turns_in w bs) x j
     at_all x j k q = ⊎_elim (λ p. subst (λ (i : ℕ). get_or (put_mid (y * w) w room us) (i * w + x) (pos 0) ≡ integral (turns_in w ds) (turns_in w bs) x i) (sym p) (at_row x k)) (λ p. written_before (y * w) w (j * w + x) room us (pos 0) ends (omega (arith, mul-add-lt j w x y (omega arith) k, mul_comm w y)) ∙ f.at x j k (omega arith)) (cases_eq j y)
 
-    small_all : (k : ℕ) → k < w * (y + 1) → nat_abs (get_or (put_mid (y * w) w room us) k (pos 0)) ≤ 1032318
-    small_all k q = by_lt k (y * w) (λ p. rw (written_before (y * w) w k room us (pos 0) ends p) (f.at_small k (omega (arith, mul_comm w y)))) (λ p. let e : y * w + (k - y * w) ≡ k = omega arith in subst (λ (i : ℕ). nat_abs (get_or (put_mid (y * w) w room us) i (pos 0)) ≤ 1032318) e (rw (written_in (y * w) w (k - y * w) room us (pos 0) ends m (omega (arith, mul-add w y 1, mul_comm w y, mul-one w))) (s (k - y * w))))
-
 pub rows_more : (w h k : ℕ) (ds bs room row us : List ℤ) (y : ℕ) (next then : ℤ) → RowsFollowed w ds bs room y next → y < h → length room ≡ w * h →
-    Row w y ds row → length us ≡ w → Follows next row us → ((i : ℕ) → nat_abs (get_or us i (pos 0)) ≤ 1032318) →
-    StepsSmall bs → w ≡ k → then ≡ next +ℤ get_or bs (y * w) (pos 0) → RowsFollowed w ds bs (put_mid (y * w) k room us) (y + 1) then
-rows_more w h k ds bs room row us y next then f l n r m g s b q e =
-    subst (λ (i : ℕ). RowsFollowed w ds bs (put_mid (y * w) i room us) (y + 1) then) q (rows_more_at w h ds bs room row us y next then f l n r m g s b e)
+    Row w y ds row → length us ≡ w → Follows next row us →
+    StepsFew bs → w ≡ k → then ≡ next +ℤ get_or bs (y * w) (pos 0) → RowsFollowed w ds bs (put_mid (y * w) k room us) (y + 1) then
+rows_more w h k ds bs room row us y next then f l n r m g b q e =
+    subst (λ (i : ℕ). RowsFollowed w ds bs (put_mid (y * w) i room us) (y + 1) then) q (rows_more_at w h ds bs room row us y next then f l n r m g b e)
 
 pub rows_all : (w h : ℕ) (ds bs room : List ℤ) (y : ℕ) (next : ℤ) → y ≡ h → RowsFollowed w ds bs room y next → Integrated w h ds bs room
 rows_all w h ds bs room y next e f = record {
   at = λ x j k l. f.at x j k (omega arith);
-  small = λ k l. f.at_small k (omega (arith, ap (λ (n : ℕ). w * n) e));
 }
 
-pub row_steps_small : (w y : ℕ) (ds row : List ℤ) → Row w y ds row → StepsSmall ds → StepsSmall row
+pub row_steps_small : (w y : ℕ) (ds row : List ℤ) → Row w y ds row → StepsFew ds → StepsFew row
 row_steps_small w y ds row r s k =
     by_lt k w (λ l. rw (r.at k (pos 0) l) (s (y * w + k))) (λ l. rw (get_or_past row k (pos 0) (omega (arith, r.long))) (omega arith))
 

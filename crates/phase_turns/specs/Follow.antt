@@ -1,13 +1,17 @@
 -- Steps in whole turns, and numbers that follow them.
-use Rattle.std.specs.Prelude.{◌≡◌, ℕ, ◌*◌, ◌<◌, ◌≤◌, List, length, ℤ, pos, ◌+ℤ◌, slice_index_or, unsigned_abs}
+use Rattle.std.specs.Prelude.{◌≡◌, ℕ, ◌^◌, ◌<◌, ◌≤◌, List, length, ℤ, pos, ◌+ℤ◌, slice_index_or, unsigned_abs}
 use Rattle.sums.specs.Sum.{sum_ℤ}
 use Rattle.phase_field.specs.Field.{Field, turns_in}
 use Rattle.phase_field.specs.Model.{HasRight, HasBelow, turns_right_from, turns_below_from}
 use Rattle.phase_cost.specs.Steps.{integral}
 
--- a list of steps, none of more turns than are followed: twice as many as a field has places, and one that is expected
+-- a list of steps, none of more turns than of which the cost is told: twice as many as a field has places, and one that is expected
 abbrev pub StepsSmall : List ℤ → Type 0
 StepsSmall ds = (k : ℕ) → unsigned_abs (slice_index_or ds k (pos 0)) ≤ 8193
+
+-- of up to so many turns, any steps of 512 by 512 places can be followed
+abbrev pub StepsFew : List ℤ → Type 0
+StepsFew ds = (k : ℕ) → unsigned_abs (slice_index_or ds k (pos 0)) ≤ 2 ^ 50
 
 -- a row that follows steps from its first number on
 pub record Follows (start : ℤ) (ds us : List ℤ) : Type 0 where
@@ -16,7 +20,6 @@ pub record Follows (start : ℤ) (ds us : List ℤ) : Type 0 where
 -- a room that follows steps down its first column and along each row
 pub record Integrated (wide high : ℕ) (right below room : List ℤ) : Type 0 where
   pub at : (x y : ℕ) → x < wide → y < high → turns_in wide room x y ≡ integral (turns_in wide right) (turns_in wide below) x y
-  pub small : (k : ℕ) → k < wide * high → unsigned_abs (slice_index_or room k (pos 0)) ≤ 1032318
 
 -- the steps that one expects of a field, in turns, and 0 where there are none
 pub record Expected (f : Field) (right below : List ℤ) : Type 0 where

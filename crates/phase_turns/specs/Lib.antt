@@ -1,3 +1,4 @@
 pub mod Cost
 pub mod Follow
 pub mod Residue
+pub mod Expect

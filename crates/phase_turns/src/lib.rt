@@ -2,6 +2,7 @@
 #![tactic(auto)]
 
 pub mod cost;
+pub mod expect;
 pub mod follow;
 pub mod residue;
 pub mod steps;

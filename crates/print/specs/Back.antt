@@ -1,4 +1,4 @@
--- Rows that are read back. The statements are types whose proofs are owed.
+-- Rows that are read back. Each statement is the contract of a function of its name.
 use Rattle.std.specs.Prelude.{◌≡◌, ℕ, ◌^◌, ◌<◌, ◌≤◌, if◌then◌else◌, List, [], ◌∷◌, map, ℤ, pos, neg_ℤ, Some, None, Ok, Option, ◌==◌}
 use Rattle.std.specs.Int.Signed.{mag}
 use Rattle.std.specs.Option.{option_map}

@@ -1,8 +1,2 @@
-pub mod Adding
-pub mod Building
-pub mod Crossing
 pub mod Fitting
-pub mod Listing
 pub mod Promising
-pub mod Settling
-pub mod Supplying

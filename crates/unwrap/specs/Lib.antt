@@ -1,6 +1,4 @@
 pub use Rattle.phase_field.specs.Field
 pub use Rattle.phase_input.specs.Input
 pub use Rattle.phase_cost.specs.Cost
-pub mod Listed
 pub mod Promise
-pub mod Settled

@@ -1,107 +1,146 @@
-// The steps of turns that cost least.
-ghost use Rattle.std.specs.Prelude.{◌≡◌, ◌+◌, ◌≤◌, length, slice_index};
+// The turns that cost least.
+ghost use Rattle.std.specs.Prelude.{◌≡◌, true, false, ◌+◌, ◌*◌, ◌<◌, ◌≤◌, length, pos, slice_index_or};
+ghost use Rattle.phase_field.specs.Field.{turns_in};
 ghost use Rattle.phase_field.specs.Model.{field_of};
-ghost use Rattle.net_graph.specs.Network.{graph};
-ghost use Rattle.net_build.specs.Edges.{Represents};
-ghost use Rattle.net_build.specs.Lists.{edges_of};
-ghost use Rattle.unwrap.specs.Listed.{AreSquares};
-ghost use Rattle.squares_net.specs.Squares.{places};
-ghost use Rattle.phase_turns.specs.Follow.{Expected};
-ghost use Rattle.unwrap.specs.Settled.{LeastSteps};
+ghost use Rattle.phase_cost.specs.Cost.{cost, Least};
+ghost use Rattle.phase_cost.specs.Steps.{steps_in, NoResidues};
+ghost use Rattle.squares_turns.specs.Lists.{field_lent};
+ghost use Rattle.squares_turns.specs.Least.{ExpectedIn, Crossed};
 
-use crate::cross::add_flows;
-use crate::list::{ARCS, EDGES, list_edges};
-use crate::settle::settle;
-use crate::supply::supply_flow;
-use net_build::{ArcLists, Edge, EdgeList, build};
-use net_graph::{Arc, Flow, Network, Node};
-use net_search::{Label, Search};
-use phase_field::field::{Field, PLACES};
-use phase_turns::residue::has_no_residue;
-use phase_turns::steps::Steps;
+use net_cells::{Cell, Costs, Flows, Mark};
+use net_cells_search::{Entry, Queue, Room as Search};
+use phase_field::field::Field;
+use phase_turns::follow::follow;
+use squares_solve::Room;
+use squares_turns::{Lists, comes_back, cross_steps, expect_steps};
 
-// Adds to the steps that are expected of a field what goes across them in a settled flow.
-fn cross_squares(
-    field: &Field,
-    edges: &[Edge],
-    net: Network<'_>,
-    arc_of: &[usize],
-    steps: &mut Steps,
-)
-    requires squares { AreSquares (field_of field.now) (edges_of edges.now) }
-    requires nodes { (graph net).nodes ≡ places (field_of field.now) }
-    requires arcs { (graph net).arcs ≤ 16384 }
-    requires built { Represents (edges_of edges.now) (graph net) (λ e. slice_index arc_of.now e) }
-    requires edges { length arc_of.now ≡ places (field_of field.now) + places (field_of field.now) }
-    requires expected { Expected (field_of field.now) steps.old.right steps.old.below }
-    ensures { LeastSteps (field_of field.now) steps.new.right steps.new.below }
+// The field by its lists.
+fn lists(field: &Field) -> Lists<'_, '_, '_>
+    ensures lent { field_lent result ≡ field_of field.now }
+    ensures wide { result.wide ≡ field.now.wide }
+    ensures high { result.high ≡ field.now.high }
 {
-    let n = field.places();
-    let mut across = [0; ARCS];
-    let mut nodes = [Node::default(); PLACES];
-    let mut labels = [Label::default(); PLACES];
-    let mut order = [0; PLACES];
-    let mut frontier = [0; PLACES];
-    let mut flow = Flow {
-        net,
-        flow: &mut across[..net.arcs.len()],
-        nodes: &mut nodes[..n],
-    };
-    supply_flow(field, steps, &mut flow);
-    let mut search = Search::new(&mut labels[..n], &mut order[..n], &mut frontier[..n]);
-    settle(field, edges, arc_of, &mut flow, &mut search);
-    let Flow { flow, .. } = flow;
-    let (right, below) = arc_of.split_at(n);
-    add_flows(right, flow, &mut steps.right);
-    add_flows(below, flow, &mut steps.below);
-}
-
-// Makes a network of the edges between squares, and adds what goes across the steps to those that are expected.
-fn solve_edges(field: &Field, edges: &[Edge], steps: &mut Steps)
-    requires squares { AreSquares (field_of field.now) (edges_of edges.now) }
-    requires expected { Expected (field_of field.now) steps.old.right steps.old.below }
-    ensures { LeastSteps (field_of field.now) steps.new.right steps.new.below }
-{
-    let n = field.places();
-    let count = edges.len();
-    let ends = count + count;
-    let mut first = [0; PLACES + 1];
-    let mut next = [0; PLACES];
-    let mut arcs = [Arc::default(); ARCS];
-    let mut arc_of = [0; EDGES];
-    let first = &mut first[..n + 1];
-    let arcs = &mut arcs[..ends];
-    let arc_of = &mut arc_of[..count];
-    let mut lists = ArcLists { arcs, arc_of };
-    build(
-        EdgeList { nodes: n, edges },
-        first,
-        &mut next[..n],
-        &mut lists,
-    );
-    let ArcLists { arcs, arc_of } = lists;
-    cross_squares(field, edges, Network { first, arcs }, arc_of, steps);
-}
-
-// Lists the edges between the squares of a field, and adds what goes across the steps to those that are expected.
-fn solve_field(field: &Field, steps: &mut Steps)
-    requires { Expected (field_of field.now) steps.old.right steps.old.below }
-    ensures { LeastSteps (field_of field.now) steps.new.right steps.new.below }
-{
-    let mut edges = [Edge::default(); EDGES];
-    let edges = &mut edges[..2 * field.places()];
-    list_edges(field, edges);
-    solve_edges(field, edges, steps);
-}
-
-/// The steps of turns that cost least, from those that are expected: these themselves where there is no residue.
-pub fn least_steps(field: &Field, expected: &Steps) -> Steps
-    requires { Expected (field_of field.now) expected.now.right expected.now.below }
-    ensures { LeastSteps (field_of field.now) result.right result.below }
-{
-    let mut steps = *expected;
-    if !has_no_residue(field, expected) {
-        solve_field(field, &mut steps);
+    Lists {
+        wide: field.wide,
+        high: field.high,
+        turn: field.turn,
+        seen: &field.seen,
+        right: &field.right,
+        below: &field.below,
     }
-    steps
+}
+
+// Adds to expected steps what flows across them where that costs least, and tells what it costs, in turns, with rooms for fewer than so
+// many cells.
+#[inline(never)]
+fn cross<const CELLS: usize>(lists: &Lists, right: &mut [i64], below: &mut [i64]) -> u64
+    requires cells { (lists.now.high + 1) * (lists.now.wide + 1) < CELLS }
+    requires cells_fit { CELLS ≤ 4226 }
+    requires right_len { length right.old ≡ lists.now.wide * lists.now.high }
+    requires below_len { length below.old ≡ lists.now.wide * lists.now.high }
+    requires expected { ExpectedIn (field_lent lists.now) right.old below.old }
+    requires some { NoResidues (steps_in (field_lent lists.now) right.old below.old) → ⊥ }
+    ensures crossed { Crossed (field_lent lists.now) right.old below.old right.new below.new
+        result }
+    ensures small { result ≤ 274877906944000 }
+{
+    let n = (lists.high + 1) * (lists.wide + 1);
+    let mut cells = [Cell::default(); CELLS];
+    let mut costs = [Costs::default(); CELLS];
+    let mut flows = [Flows::default(); CELLS];
+    let mut marks = [Mark::BLANK; CELLS];
+    let mut touched = [0; CELLS];
+    let mut heap = [Entry::default(); 1024];
+    let mut stack = [0; 1024];
+    let mut list = [0; CELLS];
+    let mut room = Room {
+        cells: &mut cells[..n],
+        costs: &mut costs[..n],
+        flows: &mut flows[..n],
+        list: &mut list[..n],
+        search: Search {
+            marks: &mut marks[..n],
+            touched: &mut touched,
+            count: 0,
+            queue: Queue::new(&mut heap, &mut stack),
+            source: 0,
+            within: 0,
+            bound: 0,
+            target: 0,
+        },
+    };
+    cross_steps(lists, right, below, &mut room)
+}
+
+// Makes expected steps those of turns that cost least: where they come back round every square, they are.
+fn settle_steps<const CELLS: usize>(lists: &Lists, right: &mut [i64], below: &mut [i64]) -> u64
+    requires cells { (lists.now.high + 1) * (lists.now.wide + 1) < CELLS }
+    requires cells_fit { CELLS ≤ 4226 }
+    requires right_len { length right.old ≡ lists.now.wide * lists.now.high }
+    requires below_len { length below.old ≡ lists.now.wide * lists.now.high }
+    requires expected { ExpectedIn (field_lent lists.now) right.old below.old }
+    ensures crossed { Crossed (field_lent lists.now) right.old below.old right.new below.new
+        result }
+    ensures small { result ≤ 274877906944000 }
+{
+    if comes_back(lists, right, below) {
+        return 0;
+    }
+    cross::<CELLS>(lists, right, below)
+}
+
+// Writes the turns, with rooms for the steps.
+fn write_by<const CELLS: usize>(
+    lists: &Lists,
+    right: &mut [i64],
+    below: &mut [i64],
+    room: &mut [i64],
+) -> u64
+    requires cells { (lists.now.high + 1) * (lists.now.wide + 1) < CELLS }
+    requires cells_fit { CELLS ≤ 4226 }
+    requires right_len { length right.old ≡ lists.now.wide * lists.now.high }
+    requires below_len { length below.old ≡ lists.now.wide * lists.now.high }
+    requires room_len { length room.old ≡ lists.now.wide * lists.now.high }
+    ensures cost { result ≡ cost (field_lent lists.now) (turns_in lists.now.wide room.new) }
+    ensures first { slice_index_or room.new 0 (pos 0) ≡ pos 0 }
+    ensures least { Least (field_lent lists.now) (turns_in lists.now.wide room.new) }
+{
+    expect_steps(lists, right, below);
+    let turns = settle_steps::<CELLS>(lists, right, below);
+    follow(lists.wide, lists.high, right, below, room);
+    u64::from(lists.turn) * turns
+}
+
+// Writes the turns, with rooms for so many places and cells.
+#[inline(never)]
+fn write_in<const PLACES: usize, const CELLS: usize>(field: &Field, room: &mut [i64]) -> u64
+    requires places { field.now.wide * field.now.high ≤ PLACES }
+    requires places_fit { PLACES ≤ 4096 }
+    requires cells { (field.now.high + 1) * (field.now.wide + 1) < CELLS }
+    requires cells_fit { CELLS ≤ 4226 }
+    requires room_len { length room.old ≡ field.now.wide * field.now.high }
+    ensures cost { result ≡ cost (field_of field.now) (turns_in field.now.wide room.new) }
+    ensures first { slice_index_or room.new 0 (pos 0) ≡ pos 0 }
+    ensures least { Least (field_of field.now) (turns_in field.now.wide room.new) }
+{
+    let mut right = [0; PLACES];
+    let mut below = [0; PLACES];
+    let n = field.places();
+    write_by::<CELLS>(&lists(field), &mut right[..n], &mut below[..n], room)
+}
+
+/// Leaves turns that cost least in a room, and answers what they cost. Small fields have smaller rooms on the stack.
+pub fn write_least(field: &Field, room: &mut [i64]) -> u64
+    requires { length room.old ≡ field.now.wide * field.now.high }
+    ensures cost { result ≡ cost (field_of field.now) (turns_in field.now.wide room.new) }
+    ensures first { slice_index_or room.new 0 (pos 0) ≡ pos 0 }
+    ensures least { Least (field_of field.now) (turns_in field.now.wide room.new) }
+{
+    if field.wide <= 16 && field.high <= 16 {
+        return write_in::<256, 290>(field, room);
+    }
+    if field.wide <= 32 && field.high <= 32 {
+        return write_in::<1024, 1090>(field, room);
+    }
+    write_in::<4096, 4226>(field, room)
 }

@@ -9,20 +9,12 @@ ghost use Rattle.phase_cost.specs.Cost.{cost, Least, AllComeBack};
 ghost use Rattle.unwrap.specs.Promise.{FindsAgain};
 ghost use Rattle.unwrap.specs.declared.Done.TheVariants as done;
 
-mod cross;
 mod least;
-mod list;
-mod settle;
-mod supply;
-mod trees;
 
-use crate::least::least_steps;
+use crate::least::write_least;
 use phase_field::field::Field;
 use phase_input::input::Input;
 use phase_input::take::take;
-use phase_turns::cost::cost;
-use phase_turns::follow::follow;
-use phase_turns::steps::Steps;
 
 /// What is answered.
 #[derive(Clone, Copy, PartialEq, Eq, Debug)]
@@ -31,19 +23,6 @@ pub enum Done {
     Back(u64),
     /// The number of the first reason for which it was refused.
     Refused(u64),
-}
-
-// The turns that are left in a room, and what is answered of them.
-fn write_least(field: &Field, room: &mut [i64]) -> u64
-    requires { length room.old ≡ field.now.wide * field.now.high }
-    ensures cost { result ≡ cost (field_of field.now) (turns_in field.now.wide room.new) }
-    ensures first { slice_index_or room.new 0 (pos 0) ≡ pos 0 }
-    ensures least { Least (field_of field.now) (turns_in field.now.wide room.new) }
-{
-    let expected = Steps::expected(field);
-    let steps = least_steps(field, &expected);
-    follow(field.wide, field.high, &steps, room);
-    cost(field, &expected, room).unwrap()
 }
 
 /// Leaves a whole number of turns for each place of the field in a room that has as many numbers, row by row, 0 for the first place, than

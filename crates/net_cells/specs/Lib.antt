@@ -1,0 +1,6 @@
+pub mod Net
+pub mod Lists
+pub mod Search
+pub mod Moves
+pub mod Fenced
+pub mod Sound

@@ -1,0 +1,5 @@
+pub mod Lowering
+pub mod Whole
+pub mod Tidying
+pub mod Relaxing
+pub mod Learning

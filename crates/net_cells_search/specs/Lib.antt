@@ -1,0 +1,3 @@
+pub mod Marks
+pub mod Lower
+pub mod Room

@@ -1,0 +1,12 @@
+pub mod Edge
+pub mod Ways
+pub mod Loop
+pub mod Lower
+pub mod Found
+pub mod Find
+pub mod Falls
+pub mod Move
+pub mod Tracks
+pub mod Fences
+pub mod Slots
+pub mod Pushes

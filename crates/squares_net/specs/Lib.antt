@@ -1,2 +1,0 @@
-pub mod Squares
-pub mod Promise

@@ -1,0 +1,8 @@
+use Rattle.squares_cells.specs.Squares.{across}
+use Rattle.squares_build.specs.Steps.{lent}
+use Rattle.squares_solve.specs.Cost.{step_below_cost}
+use Rattle.squares_solve.proofs.Summing.{SoFar}
+use Rattle.squares_solve.proofs.cost.row_below_cost.Given as goal
+
+abbrev pub invariant-loop-x : goal.invariant-loop-x
+invariant-loop-x l = SoFar (step_below_cost (lent l.steps) (across (lent l.steps) l.flows) l.y) 524288000 l.x l.cost

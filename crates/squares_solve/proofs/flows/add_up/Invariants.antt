@@ -1,0 +1,11 @@
+use Rattle.std.proofs.Common.{pred}
+use Rattle.squares_cells.specs.Squares.{across}
+use Rattle.squares_build.specs.Steps.{sized}
+use Rattle.squares_solve.proofs.Adding.{Adding}
+use Rattle.squares_solve.proofs.flows.add_up.Given as goal
+
+abbrev pub invariant-loop-y : goal.invariant-loop-y
+invariant-loop-y l = Adding l.wide (pred l.wide) (across (sized l.wide l.high) l.flows).right l.fn.steps 0 l.y l.steps
+
+abbrev pub invariant-loop-x : goal.invariant-loop-x
+invariant-loop-x l = Adding l.wide (pred l.wide) (across (sized l.wide l.high) l.flows).right l.fn.steps l.x l.y l.steps
