@@ -12,6 +12,21 @@
 #include <functional>
 #include <malloc.h>
 
+// The same for fields of up to 512 by 512, by the same functions, in memory of its own. Answers 0, or 1 where it doesn't take the field, or 2.
+extern "C" uint64_t mulantsy_bench_cells(
+    uint64_t wide, uint64_t high, uint32_t turn,
+    const uint32_t *seen, size_t seen_len,
+    const uint32_t *right, size_t right_len,
+    const uint32_t *below, size_t below_len,
+    int64_t *room, size_t room_len,
+    uint64_t *cost);
+
+static uint64_t put_back_any(const Field &f, int64_t *room, uint64_t *cost) {
+    if (f.wide <= 64 && f.high <= 64) return put_back(f, room, cost);
+    return mulantsy_bench_cells(f.wide, f.high, uint32_t(f.turn), f.seen.data(), f.seen.size(), f.right.data(), f.right.size(),
+                                f.below.data(), f.below.size(), room, f.places(), cost);
+}
+
 using Clock = std::chrono::steady_clock;
 
 static double milliseconds(Clock::time_point from) {
@@ -59,7 +74,7 @@ static Row measure(const Kind &kind, const Size &size, uint64_t seed) {
         for (int again = 0; again < size.runs; again++) {
             forget_caches();
             auto start = Clock::now();
-            uint64_t refusal = put_back(f, room.data(), &cost);
+            uint64_t refusal = put_back_any(f, room.data(), &cost);
             best[0] = std::min(best[0], milliseconds(start));
             forget_caches();
             start = Clock::now();

@@ -39,7 +39,7 @@ fn named<'a>(name: Option<&'a str>) -> Option<&'a str> {
 }
 
 impl<'a> Ask<'a> {
-    // Whether what is said is to be JSON.
+    /// Whether what is said is to be JSON.
     pub fn is_json(&self) -> bool {
         self.view == View::Heights(Form::Json)
     }

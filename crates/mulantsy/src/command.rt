@@ -13,7 +13,11 @@ const EXAMPLE: &str = "Example:
 
 `mulantsy --help` says what a text is, and what the statuses are.";
 
-const FORMAT: &str = "The text: lines in any order, ended by LF, CR LF or CR; blanks part words:
+const FORMAT: &str =
+    "Options go after the command. A file that is named as a command is, `unwrap` or
+`help`, is written ./unwrap or ./help.
+
+The text: lines in any order, ended by LF, CR LF or CR; blanks part words:
   turn 10      how many units a turn has, 2 to 65,536
   0 3 6        a row of what was seen, 0 up to but not a turn: 1 to 64 rows of
                1 to 64 numbers

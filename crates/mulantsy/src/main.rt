@@ -36,12 +36,16 @@ fn not_had(rt: &HostRuntime, name: &str, error: io::Error) -> io::Result<ExitCod
     Ok(ExitCode::from(NOT_HAD))
 }
 
+fn name_commands(rt: &HostRuntime) -> io::Result<()> {
+    eprintln!(rt; "mulantsy: commands are: unwrap")
+}
+
 // A mistyped command is taken for a file.
 fn no_file(rt: &HostRuntime, name: &str, error: io::Error) -> io::Result<ExitCode> {
     let missing = error.kind() == ErrorKind::NotFound;
     let status = not_had(rt, name, error)?;
     if missing {
-        eprintln!(rt; "mulantsy: commands are: unwrap")?;
+        name_commands(rt)?;
     }
     Ok(status)
 }
@@ -97,16 +101,23 @@ fn asked<'a>(matches: &ArgMatches<'a>) -> Ask<'a> {
     }
 }
 
+// Says why a command line isn't understood, or what help was asked for. A word too many is taken for a command.
+fn not_understood(rt: &HostRuntime, error: &clap::Error) -> io::Result<ExitCode> {
+    error.print(rt)?;
+    let said = format!(in rt.alloc(); "{error}")?;
+    if said.as_str().starts_with("error: the subcommand") {
+        name_commands(rt)?;
+    }
+    Ok(ExitCode::from(error.exit_code() as u8))
+}
+
 // Does what the command line asks for.
 fn run(rt: &HostRuntime) -> io::Result<ExitCode> {
     let alloc = rt.alloc();
     let words: Vec<String> = env::args(rt)?.collect(alloc)?;
     match command(alloc)?.try_get_matches_from(words.as_slice()) {
         Ok(matches) => show(rt, asked(&matches)),
-        Err(error) => {
-            error.print(rt)?;
-            Ok(ExitCode::from(error.exit_code() as u8))
-        }
+        Err(error) => not_understood(rt, &error),
     }
 }
 

@@ -32,7 +32,8 @@ fn shown(heap: Global, word: &[u8]) -> Result<String, AllocError> {
     Ok(out)
 }
 
-// The line that says where it went wrong, and what stands there, as `field.txt:3:1: 10`; None where the text has no place for it.
+/// The line that says where it went wrong, and what stands there, as `field.txt:3:1: 10`, both counted from 1; None where the text has no
+/// place for it.
 pub fn place_line(
     heap: Global,
     name: &str,
@@ -54,7 +55,7 @@ pub fn place_line(
     Ok(Some(out))
 }
 
-// A refusal as a line of JSON.
+/// A refusal as a line of JSON.
 pub fn refusal_json(
     heap: Global,
     text: &[u8],

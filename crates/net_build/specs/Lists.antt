@@ -1,5 +1,5 @@
 -- Edges and arcs on slices.
-use Rattle.std.specs.Prelude.{ℕ, List, length, slice_index, slice_index_or}
+use Rattle.std.specs.Prelude.{◌≡◌, ℕ, List, length, slice_index, slice_index_or}
 use Rattle.net_graph.specs.Graph.{no_arc}
 use Rattle.net_build.specs.Edges.{Edges}
 use Rattle.net_build.specs.Ends.{no_edge, from_of, to_of}
@@ -38,3 +38,8 @@ degree_of l v = degree (from_of l.edges.now) (to_of l.edges.now) (length l.edges
 
 abbrev pub base_of : EdgeList → ℕ → ℕ
 base_of l v = base (from_of l.edges.now) (to_of l.edges.now) (length l.edges.now) v
+
+-- the lists are written where they were lent
+pub record SameLists (l l' : ArcLists) : Type 0 where
+  pub arcs : l'.arcs.ghost_name ≡ l.arcs.ghost_name
+  pub arc_of : l'.arc_of.ghost_name ≡ l.arc_of.ghost_name

@@ -148,15 +148,20 @@ fn round(
     pass(cells, flows, costs, rear, room, list, count, within);
 }
 
-// Half as far again.
-fn wider(within: i32) -> i32
+// How far to look next: half as far again, and four times as far where no cell was done with.
+fn wider(within: i32, done: bool) -> i32
     requires some { pos 0 ≤ℤ within }
     requires near { within <ℤ pos (2 ^ 29) }
     ensures more { within <ℤ result }
     ensures near { result ≤ℤ far }
 {
     let radius = within as u32;
-    (radius + radius / 2 + 1) as i32
+    let next = if done {
+        radius + radius / 2
+    } else {
+        4 * radius
+    };
+    (next + 1).min(1 << 30) as i32
 }
 
 /// Settles a flow between cells: all that is in excess goes to cells that lack something, or outside, along cheapest ways, and all that is
@@ -190,8 +195,9 @@ pub fn settle(
     let mut count = list.len();
     while within < FAR / 2 && count > 0 {
         round(cells, flows, costs, stride, room, list, count, within);
-        count = keep(cells, list, count);
-        within = wider(within);
+        let kept = keep(cells, list, count);
+        within = wider(within, kept < count);
+        count = kept;
     }
     round(cells, flows, costs, stride, room, list, count, FAR);
 }

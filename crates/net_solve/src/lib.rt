@@ -3,9 +3,10 @@
 
 mod augment;
 mod infeasible;
+mod initial;
 mod path;
 mod solver;
-mod start;
 
 pub use infeasible::{Infeasible, always_feasible};
-pub use solver::solve;
+pub use initial::start;
+pub use solver::{solve, solve_from};

@@ -10,7 +10,7 @@ ghost use Rattle.net_solve.specs.Inner.{Progress};
 
 use crate::augment::augment;
 use crate::infeasible::Infeasible;
-use crate::start::start;
+use crate::initial::start;
 use net_graph::Flow;
 use net_search::{INFINITY, Search};
 
@@ -105,8 +105,8 @@ fn solve_some(flow: &mut Flow, search: &mut Search, first: usize) -> Result<(), 
     Ok(())
 }
 
-// Sends what is in excess along shortest paths to deficits, until nothing is in excess or nothing more can go.
-fn solve_from(flow: &mut Flow, search: &mut Search) -> Result<(), Infeasible>
+/// Sends what is in excess along shortest paths to deficits, from any sound state, until nothing is in excess or nothing more can go.
+pub fn solve_from(flow: &mut Flow, search: &mut Search) -> Result<(), Infeasible>
     requires lengths { HasLengths (graph flow.old.net).nodes search.old }
     requires sound { Sound (graph flow.old.net) (state flow.old) }
     ensures progress { Progress flow.old search.old flow.new search.new }

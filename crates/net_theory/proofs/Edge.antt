@@ -5,11 +5,11 @@ use Rattle.std.proofs.lemmas.Int.{ints}
 use Rattle.sums.proofs.Ring.{add_mul_ℤ, neg_mul_ℤ, mul_sub_ℤ, mul_zero_ℤ, mul_nonneg_ℤ, mul_le_right_ℤ}
 use Rattle.net_graph.proofs.Points.{cases_lt_ℤ}
 
-up_none : (z : ℤ) → z ≤ℤ pos 0 → up z ≡ 0
+pub up_none : (z : ℤ) → z ≤ℤ pos 0 → up z ≡ 0
 up_none (pos n) h = omega (arith, ints)
 up_none (negsuc n) h = refl
 
-up_some : (z : ℤ) → pos 0 ≤ℤ z → pos (up z) ≡ z
+pub up_some : (z : ℤ) → pos 0 ≤ℤ z → pos (up z) ≡ z
 up_some (pos n) h = refl
 up_some (negsuc n) h = absurd (omega (arith, ints))
 

@@ -2,6 +2,7 @@
 ghost use Rattle.std.specs.Prelude.{◌≡◌, ℕ, ◌*◌, ◌≤◌, length, Some, None, IfOk, IfErr, slice_index};
 ghost use Rattle.phase_field.specs.Model.{field_of};
 ghost use Rattle.phase_input.specs.Input.{field_lent, verdict};
+ghost use Rattle.phase_input.specs.Verdict.{IsVerdict};
 ghost use Rattle.phase_input.specs.Lent.{input_of};
 
 use crate::input::Input;
@@ -17,6 +18,26 @@ fn put(list: &[u32], all: &mut [u32; PLACES])
     all[..list.len()].copy_from_slice(list);
 }
 
+/// The field that is lent, where nothing speaks against it.
+pub fn field(input: &Input<'_, '_, '_>, room: u64) -> Field
+    requires { IsVerdict (input_of input.now room) None }
+    ensures { field_of result ≡ field_lent (input_of input.now room) }
+{
+    let mut field = Field {
+        wide: input.wide as usize,
+        high: input.high as usize,
+        turn: input.turn as u32,
+        seen: [0; PLACES],
+        right: [0; PLACES],
+        below: [0; PLACES],
+    };
+    // Where they stand: else all three are copied once more.
+    put(input.seen, &mut field.seen);
+    put(input.right, &mut field.right);
+    put(input.below, &mut field.below);
+    field
+}
+
 /// The field that is lent, or why it is refused, with a room of so many numbers for its turns.
 pub fn take(input: &Input<'_, '_, '_>, room: u64) -> Result<Field, Refusal>
     ensures taken { IfOk result (λ _. verdict (input_of input.now room) ≡ None) }
@@ -26,19 +47,6 @@ pub fn take(input: &Input<'_, '_, '_>, room: u64) -> Result<Field, Refusal>
 {
     match input.verdict(room) {
         Some(refusal) => Err(refusal),
-        None => {
-            let mut field = Field {
-                wide: input.wide as usize,
-                high: input.high as usize,
-                turn: input.turn as u32,
-                seen: [0; PLACES],
-                right: [0; PLACES],
-                below: [0; PLACES],
-            };
-            put(input.seen, &mut field.seen);
-            put(input.right, &mut field.right);
-            put(input.below, &mut field.below);
-            Ok(field)
-        }
+        None => Ok(field(input, room)),
     }
 }

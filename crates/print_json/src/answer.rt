@@ -50,7 +50,8 @@ fn squares_value(heap: Global, report: &Report<'_>, heights: Value) -> Result<Va
 /// The heights row by row, the cost, and the signs where the squares are asked for, as one object.
 pub fn answer_value(heap: Global, report: &Report<'_>) -> Result<Value, AllocError>
     ensures { IfOk result (λ v. view v ≡
-        answer_data (field_of report.now.field.now) report.now.heights.now report.now.cost report.now.squares) }
+        answer_data (field_of report.now.field.now)
+        report.now.heights.now report.now.cost report.now.squares) }
 {
     let heights = rows_value(heap, report.field.wide, report.field.high, report.heights)?;
     if report.squares {
@@ -63,7 +64,8 @@ pub fn answer_value(heap: Global, report: &Report<'_>) -> Result<Value, AllocErr
 /// The same as a text of one line.
 pub fn answer_json(heap: Global, report: &Report<'_>) -> Result<String, AllocError>
     ensures { IfOk result (λ s. string_bytes s ≡
-        json_line (answer_data (field_of report.now.field.now) report.now.heights.now report.now.cost report.now.squares)) }
+        json_line (answer_data (field_of report.now.field.now)
+        report.now.heights.now report.now.cost report.now.squares)) }
 {
     let mut text = answer_value(heap, report)?.to_string(heap)?;
     writeln!(text)?;

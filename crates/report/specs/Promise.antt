@@ -25,7 +25,15 @@ use Rattle.report.specs.declared.unanswered.Unanswered.TheVariants.{Unreadable, 
 abbrev pub input_said : Contents → Input
 input_said d =
     let p = first_picture d in
-    record { wide = p.wide; high = p.high; turn = d.turn; seen = p.seen; right = p.right; below = p.below; room = length p.seen }
+    record {
+      wide = p.wide;
+      high = p.high;
+      turn = d.turn;
+      seen = p.seen;
+      right = p.right;
+      below = p.below;
+      room = length p.seen;
+    }
 
 -- why a document is refused
 abbrev pub refused_of : Contents → Option Unanswered
@@ -37,19 +45,22 @@ unanswered_of (Ok d) = refused_of d
 unanswered_of (Err e) = Some (Unreadable e.line e.why)
 
 -- the text of heights and of what their turns cost
-abbrev pub form_text : Form → Field → (heights : List ℤ) → (cost : ℕ) → (squares : Bool) → List ℕ
+abbrev pub form_text : Form → Field →
+    (heights : List ℤ) → (cost : ℕ) → (squares : Bool) → List ℕ
 form_text Rows f zs n squares = answer_text f zs n squares
 form_text Json f zs n squares = json_line (answer_data f zs n squares)
 form_text Csv f zs n squares = rows_text Comma f.wide f.high zs
 form_text Picture f zs n squares = picture_text f.wide f.high zs
 
 -- the text is that of turns for all places that cost least, 0 for the first
-pub record Solved (form : Form) (f : Field) (seen : List ℕ) (squares : Bool) (text : List ℕ) : Type 0 where
+pub record Solved (form : Form) (f : Field)
+    (seen : List ℕ) (squares : Bool) (text : List ℕ) : Type 0 where
   pub turns : List ℤ
   pub places : length turns ≡ f.wide * f.high
   pub first : slice_index_or turns 0 (pos 0) ≡ pos 0
   pub least : Least f (turns_in f.wide turns)
-  pub printed : text ≡ form_text form f (heights_of f.turn seen turns) (cost f (turns_in f.wide turns)) squares
+  pub printed : text ≡
+      form_text form f (heights_of f.turn seen turns) (cost f (turns_in f.wide turns)) squares
 
 -- heights, or the rings that were seen
 abbrev pub Views : View → Field → (seen : List ℕ) → (squares : Bool) → (text : List ℕ) → Type 0

@@ -1,6 +1,5 @@
 -- What a drawn field is, and what is said of it.
 use Rattle.std.specs.Prelude.{◌≡◌, ℕ, ◌*◌, ◌<◌, ◌≤◌, ◌⊎◌, Bool, false, List, take, Some, codes, nat_lt, slice_index}
-use Rattle.phase_field.specs.Field.{Field}
 use Rattle.phase_field.specs.Model.{field_of}
 use Rattle.phase_field.specs.declared.field.Field.{Field as code}
 use Rattle.phase_input.specs.Input.{Input, input, field_lent, verdict}

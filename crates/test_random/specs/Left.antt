@@ -1,5 +1,9 @@
 -- What is seen of a room that was not taken.
-use Rattle.std.specs.Prelude.{◌≡◌, ℕ, ◌<◌, List, length, ℤ, pos, slice_index_or}
+use Rattle.std.specs.Prelude.{◌≡◌, ℕ, ◌<◌, List, length, ℤ, pos, Some, slice_index_or}
+use Rattle.phase_input.specs.Input.{verdict, number}
+use Rattle.phase_input.specs.declared.refusal.Refusal.{Refusal}
+use Rattle.test_random.specs.Drawn.{input_drawn}
+use Rattle.test_random.specs.declared.trial.Trial.{Trial}
 use Rattle.unwrap.specs.declared.Done.{Done}
 use Rattle.unwrap.specs.declared.Done.TheVariants.{Refused}
 
@@ -8,9 +12,6 @@ pub record LeftAlone (done : Done) (room : List ℤ) (mark : ℤ) : Type 0 where
   pub why : done ≡ Refused 4
   pub kept : (k : ℕ) → k < length room → slice_index_or room k (pos 0) ≡ mark
 
--- a room of so many numbers was turned away, with the mark 77 at each place
-pub record RefusesRoom (long : ℕ) : Type 0 where
-  pub done : Done
-  pub room : List ℤ
-  pub places : length room ≡ long
-  pub left : LeftAlone done room (pos 77)
+-- what the trial lends is refused for a room of so many numbers
+abbrev pub RefusesRoom : Trial → (long : ℕ) → Type 0
+RefusesRoom t long = (why : Refusal) × (verdict (input_drawn t long) ≡ Some why) × (number why ≡ 4)

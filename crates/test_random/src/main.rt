@@ -3,7 +3,8 @@
 
 ghost use Rattle.std.specs.Prelude.{◌+◌, ◌-◌, ◌≤◌, ◌↔◌, IsTrue};
 ghost use Rattle.test_random.specs.Left.{RefusesRoom};
-ghost use Rattle.test_random.specs.Agreed.{Agreed, AgreesOnce, Costs, CostsOnce};
+ghost use Rattle.test_random.specs.Agreed.{Agreed, AgreesOnce, Costs, AllCost};
+ghost use Rattle.test_random.specs.Drawn.{SaysResidue};
 
 mod counts;
 mod draw;
@@ -44,7 +45,7 @@ fn back_agrees(trial: &Trial, done: Done, turns: &[i64]) -> bool
 // Whether a room of so many numbers is turned away.
 fn room_refused(trial: &Trial, long: usize) -> bool
     requires { long ≤ 7 }
-    ensures { IsTrue result → RefusesRoom long }
+    ensures { IsTrue result → RefusesRoom trial.now long }
 {
     let mut room = [MARK; 7];
     let turns = &mut room[0..long];
@@ -52,12 +53,21 @@ fn room_refused(trial: &Trial, long: usize) -> bool
     left_alone(done, turns, MARK)
 }
 
+// Whether rooms of a number less and of a number more than there are places are turned away.
+fn rooms_refused(trial: &Trial) -> bool
+    ensures fewer { IsTrue result → RefusesRoom trial.now (trial.now.places - 1) }
+    ensures more { IsTrue result → RefusesRoom trial.now (trial.now.places + 1) }
+{
+    room_refused(trial, trial.places - 1) && room_refused(trial, trial.places + 1)
+}
+
 // Puts turns back into a field, and holds what is answered to what trying gives.
 fn try_field(trial: &Trial) -> Outcome
+    ensures residues { SaysResidue trial.now result.residues }
+    ensures costly { IsTrue result.costly ↔ AllCost trial.now }
     ensures agreed { IsTrue result.agreed → AgreesOnce trial.now }
-    ensures costly { IsTrue result.costly → CostsOnce }
-    ensures fewer { IsTrue result.refused → RefusesRoom (trial.now.places - 1) }
-    ensures more { IsTrue result.refused → RefusesRoom (trial.now.places + 1) }
+    ensures fewer { IsTrue result.refused → RefusesRoom trial.now (trial.now.places - 1) }
+    ensures more { IsTrue result.refused → RefusesRoom trial.now (trial.now.places + 1) }
 {
     let mut room = [MARK; 6];
     let turns = &mut room[0..trial.places];
@@ -66,7 +76,7 @@ fn try_field(trial: &Trial) -> Outcome
         residues: trial.has_residue(),
         costly: costs(done),
         agreed: back_agrees(trial, done, turns),
-        refused: room_refused(trial, trial.places - 1) && room_refused(trial, trial.places + 1),
+        refused: rooms_refused(trial),
     }
 }
 

@@ -14,7 +14,7 @@ mod least;
 use crate::least::write_least;
 use phase_field::field::Field;
 use phase_input::input::Input;
-use phase_input::take::take;
+use phase_input::take::field;
 
 /// What is answered.
 #[derive(Clone, Copy, PartialEq, Eq, Debug)]
@@ -79,8 +79,9 @@ pub fn put_back(
         right,
         below,
     };
-    match take(&input, room.len() as u64) {
-        Err(refusal) => Done::Refused(refusal.number()),
-        Ok(field) => Done::Back(unwrap_field(&field, room)),
+    let places = room.len() as u64;
+    match input.verdict(places) {
+        Some(refusal) => Done::Refused(refusal.number()),
+        None => Done::Back(unwrap_field(&field(&input, places), room)),
     }
 }

@@ -6,8 +6,8 @@ use Rattle.net_cells_solve.proofs.Searches.{later_none, later_more}
 use Rattle.net_cells_solve.proofs.Listings.{later_listing, all_none}
 use Rattle.net_cells_solve.proofs.rounds.settle.Goals as goal
 
-pub keep-count-requires-clause-listing : goal.keep-count-requires-clause-listing
-keep-count-requires-clause-listing c =
+pub keep-kept-requires-clause-listing : goal.keep-kept-requires-clause-listing
+keep-kept-requires-clause-listing c =
     later_listing c.loop-within.cells c.round.new.cells c.loop-within.flows c.round.new.flows c.loop-within.costs c.round.new.costs c.args.stride c.round.ensures.later c.loop-within.list c.loop-within.count (search rules)
     c.loop-within.invariant.listing
 
@@ -32,8 +32,8 @@ loop-within-preserved c = record {
   later =
       later_more c.args.cells.now c.loop-within.cells c.round.new.cells c.args.flows.now c.loop-within.flows c.round.new.flows c.args.costs.now c.loop-within.costs c.round.new.costs (ahead c.args.stride) c.loop-within.invariant.later
       c.round.ensures.later;
-  few = c.keep-count.ensures.count;
-  listing = c.keep-count.ensures.listing;
+  few = c.keep-kept.ensures.count;
+  listing = c.keep-kept.ensures.listing;
   some = omega (arith, ints, c.wider-within.ensures.more, c.wider-within.type_inv, c.loop-within.invariant.some);
 }
 

@@ -1,0 +1,3 @@
+pub mod Certificate
+pub mod Cost
+pub mod Dear

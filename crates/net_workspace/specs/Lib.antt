@@ -1,0 +1,3 @@
+pub mod Buffers
+pub mod Slices
+pub mod Workspace
