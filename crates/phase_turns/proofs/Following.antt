@@ -1,19 +1,19 @@
 -- Rows and rooms that follow steps, as loops write them.
-use Rattle.std.proofs.Common.{◌≡◌, ℕ, ◌+◌, ◌*◌, ◌^◌, ◌<◌, ◌≤◌, List, length, get_or, set, ℤ, pos, ◌+ℤ◌, nat_abs, sym, ap, ◌∙◌, subst, ⊎_elim, add-zero, mul_comm, arith, get_or-set_other, get_or-set_same}
+use Rattle.std.proofs.Common.{◌≡◌, ℕ, zero, suc, ◌+◌, ◌*◌, ◌/◌, ◌%◌, ◌^◌, ◌<◌, ◌≤◌, List, length, get_or, set, ℤ, pos, ◌+ℤ◌, nat_abs, sym, ap, ◌∙◌, subst, ⊎_elim, add-zero, mul_comm, arith, get_or-set_other, get_or-set_same}
 use Rattle.std.proofs.lemmas.Int.{ints}
 use Rattle.std.proofs.lemmas.Bool.{cases_eq, cases_lt}
 use Rattle.std.proofs.lemmas.List.{get_or_past}
 use Rattle.sums.specs.Sum.{sum_ℤ}
 use Rattle.sums.proofs.Sum.{sum_ℤ_ext}
 use Rattle.sums.proofs.Loop.{sum_ℤ_none, sum_ℤ_more}
-use Rattle.std.proofs.lemmas.Nat.{mul-add-lt}
+use Rattle.std.proofs.lemmas.Nat.{mul-add-lt, mul-le, div_below, mod_below}
 use borrow.Rule.Slice.PartMut.{put_mid}
 use Rattle.phase_field.specs.Field.{turns_in}
 use Rattle.phase_field.specs.Model.{Row}
 use Rattle.phase_field.proofs.Parts.{row_ends, written_in, written_before}
 use Rattle.phase_cost.specs.Steps.{integral}
 use Rattle.phase_cost.proofs.Integral.{integral_first}
-use Rattle.phase_turns.specs.Follow.{StepsFew, Follows, Integrated}
+use Rattle.phase_turns.specs.Follow.{StepsFew, AllWithin, StepsWithin, Follows, Integrated}
 
 -- the first numbers of a row are written, and this comes next
 pub record Following (start : ℤ) (ds us : List ℤ) (x : ℕ) (next : ℤ) : Type 0 where
@@ -44,6 +44,18 @@ follow_all start ds us x next e f = record { at = λ k l. f.before k (omega arit
 
 by_lt : {P : Type 0} (a b : ℕ) → (a < b → P) → (b ≤ a → P) → P
 by_lt a b p q = ⊎_elim p q (cases_lt a b)
+
+-- a sum of so many numbers, none of which is more than m either way
+sum_within : (n m : ℕ) (f : ℕ → ℤ) → ((i : ℕ) → i < n → nat_abs (f i) ≤ m) → nat_abs (sum_ℤ n f) ≤ n * m
+unfolding sum_ℤ
+sum_within zero m f s = omega arith
+sum_within (suc n) m f s = omega (arith, ints, sum_within n m f (λ i l. s i (omega arith)), s n (omega arith))
+
+pub follows_within : (start : ℤ) (ds us : List ℤ) → Follows start ds us → (m : ℕ) → AllWithin m ds → AllWithin (nat_abs start + length us * m) us
+follows_within start ds us f m s k = by_lt k (length us) (λ l. within l) (λ l. rw (get_or_past us k (pos 0) l) (omega arith))
+  where
+    within : k < length us → nat_abs (get_or us k (pos 0)) ≤ nat_abs start + length us * m
+    within l = omega (arith, ints, f.at k l, sum_within k m (λ i. get_or ds i (pos 0)) (λ i j. s i), mul-le k m (length us) m (omega arith) (omega arith))
 
 -- the first rows of a room are written, and the next one begins with this
 pub record RowsFollowed (w : ℕ) (ds bs room : List ℤ) (y : ℕ) (next : ℤ) : Type 0 where
@@ -94,10 +106,39 @@ pub rows_more : (w h k : ℕ) (ds bs room row us : List ℤ) (y : ℕ) (next the
 rows_more w h k ds bs room row us y next then f l n r m g b q e =
     subst (λ (i : ℕ). RowsFollowed w ds bs (put_mid (y * w) i room us) (y + 1) then) q (rows_more_at w h ds bs room row us y next then f l n r m g b e)
 
+integral_within : (w h m : ℕ) (ds bs : List ℤ) → StepsWithin m w h ds bs → (x y : ℕ) → x < w → y < h → nat_abs (integral (turns_in w ds) (turns_in w bs) x y) ≤ (w + h) * m
+unfolding integral
+integral_within w h m ds bs s x y k l =
+    omega (
+      arith,
+      ints,
+      sum_within y m (λ j. turns_in w bs 0 j) (λ j p. s.to_below 0 j (omega arith) (omega arith)),
+      sum_within x m (λ i. turns_in w ds i y) (λ i p. s.to_right i y (omega arith) l),
+      mul-le x m w m (omega arith) (omega arith),
+      mul-le y m h m (omega arith) (omega arith),
+    )
+
 pub rows_all : (w h : ℕ) (ds bs room : List ℤ) (y : ℕ) (next : ℤ) → y ≡ h → RowsFollowed w ds bs room y next → Integrated w h ds bs room
+unfolding turns_in
 rows_all w h ds bs room y next e f = record {
-  at = λ x j k l. f.at x j k (omega arith);
+  at = at;
+  small = λ m s k l. small m s k l;
 }
+  where
+    at : (x j : ℕ) → x < w → j < h → turns_in w room x j ≡ integral (turns_in w ds) (turns_in w bs) x j
+    at x j k l = f.at x j k (omega arith)
+
+    small_at : (m : ℕ) → StepsWithin m w h ds bs → (x j : ℕ) → x < w → j < h → nat_abs (turns_in w room x j) ≤ (w + h) * m
+    small_at m s x j k l = subst (λ (z : ℤ). nat_abs z ≤ (w + h) * m) (sym (at x j k l)) (integral_within w h m ds bs s x j k l)
+
+    some : (k : ℕ) → k < w * h → 0 < w
+    some k l = ⊎_elim (λ p. absurd (omega (arith, ap (λ (n : ℕ). n * h) p))) (λ p. omega (arith, p)) (cases_eq w 0)
+
+    small : (m : ℕ) → StepsWithin m w h ds bs → (k : ℕ) → k < w * h → nat_abs (get_or room k (pos 0)) ≤ (w + h) * m
+    small m s k l =
+        let e : (k / w) * w + k % w ≡ k = omega arith in
+        subst (λ (i : ℕ). nat_abs (get_or room i (pos 0)) ≤ (w + h) * m) e
+        (small_at m s (k % w) (k / w) (mod_below k w (some k l)) (div_below k w h (some k l) (omega (arith, mul_comm w h))))
 
 pub row_steps_small : (w y : ℕ) (ds row : List ℤ) → Row w y ds row → StepsFew ds → StepsFew row
 row_steps_small w y ds row r s k =

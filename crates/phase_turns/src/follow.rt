@@ -1,6 +1,6 @@
 // Turns that follow steps: down the first column, and along each row.
-ghost use Rattle.std.specs.Prelude.{◌≡◌, ◌*◌, ◌^◌, ◌≤◌, length, unsigned_abs};
-ghost use Rattle.phase_turns.specs.Follow.{StepsFew, Follows, Integrated};
+ghost use Rattle.std.specs.Prelude.{◌≡◌, ℕ, ◌+◌, ◌*◌, ◌^◌, ◌≤◌, length, unsigned_abs};
+ghost use Rattle.phase_turns.specs.Follow.{StepsFew, AllWithin, Follows, Integrated};
 
 use phase_field::rows::row_of;
 
@@ -10,7 +10,9 @@ fn follow_row(start: i64, steps: &[i64], row: &mut [i64])
     requires steps_len { length steps.now ≡ length row.old }
     requires row_len_bound { length row.old ≤ 512 }
     requires steps_few { StepsFew steps.now }
-    ensures { Follows start steps.now row.new }
+    ensures is { Follows start steps.now row.new }
+    ensures small { (m : ℕ) → AllWithin m steps.now →
+        AllWithin (unsigned_abs start + length row.new * m) row.new }
 {
     let mut at = start;
     for (x, turns) in row.iter_mut().enumerate() {
@@ -21,7 +23,6 @@ fn follow_row(start: i64, steps: &[i64], row: &mut [i64])
 
 /// Writes turns for places so wide and high, row by row, 0 for the first one, that follow steps down the first column and along each row.
 pub fn follow(wide: usize, high: usize, right: &[i64], below: &[i64], room: &mut [i64])
-    requires wide_some { 1 ≤ wide }
     requires wide_bound { wide ≤ 512 }
     requires high_bound { high ≤ 512 }
     requires room_len { length room.old ≡ wide * high }
@@ -31,6 +32,9 @@ pub fn follow(wide: usize, high: usize, right: &[i64], below: &[i64], room: &mut
     requires below_few { StepsFew below.now }
     ensures { Integrated wide high right.now below.now room.new }
 {
+    if wide == 0 {
+        return;
+    }
     let mut start = 0;
     for y in 0..high {
         let from = y * wide;

@@ -122,8 +122,8 @@ ended s all new costs costs' flows flows' laid long priced w h n r some sound' l
           later.few u d (inner u i) l,
           no_flow s all costs flows laid long priced n.right n.up u d,
           few_left s all costs flows laid long priced r,
-          mul-le (suc s.high) (suc s.wide) 513 513 (omega arith) (omega arith),
         );
+    size = omega (arith, mul-le (suc s.high) (suc s.wide) 513 513 (omega arith) (omega arith));
     wide = elim (cases_lt 1 s.wide) [ inl l ↦ l | inr l ↦ absurd (some (λ x y k m. absurd (omega arith))) ];
     high = elim (cases_lt 1 s.high) [ inl l ↦ l | inr l ↦ absurd (some (λ x y k m. absurd (omega arith))) ];
   };

@@ -1,5 +1,5 @@
 -- What a flow between squares is asked for.
-use Rattle.std.specs.Prelude.{◌≡◌, ℕ, ◌^◌, ◌<◌, ◌≤◌, true, List, length, pos, unsigned_abs}
+use Rattle.std.specs.Prelude.{◌≡◌, ℕ, suc, ◌*◌, ◌^◌, ◌<◌, ◌≤◌, true, List, length, pos, unsigned_abs}
 use Rattle.phase_cost.specs.Steps.{Steps, Heights, heights_cost}
 use Rattle.net_cells.specs.declared.cell.Flows.{Flows}
 use Rattle.net_cells.specs.declared.cell.Cell.{Cell}
@@ -11,14 +11,15 @@ use Rattle.net_cells_solve.specs.Listing.{ahead}
 use Rattle.net_cells_search.specs.Marks.{Blank}
 use Rattle.net_cells_search.specs.Room.{RoomFor}
 use Rattle.squares_solve.specs.declared.solver.Room.{Room}
-use Rattle.squares_cells.specs.Squares.{stride, is_square, supply, price_by, across, heights_by}
+use Rattle.squares_cells.specs.Squares.{stride, cells, is_square, supply, price_by, across, heights_by}
 use Rattle.squares_solve.specs.Flows.{Within}
 
--- the heights that it makes cost so much, and none cost less; and no more flows across any step than all squares supply
+-- the heights that it makes cost so much, and none cost less; and no more flows across any step than there are cells
 pub record Solved (s : Steps) (flows : List Flows) (cost : ℕ) : Type 0 where
   pub cost_is : cost ≡ heights_cost s (heights_by s (across s flows))
   pub least : (h : Heights) → heights_cost s (heights_by s (across s flows)) ≤ heights_cost s h
   pub within : Within (2 ^ 19) s (across s flows)
+  pub few : Within (cells s) s (across s flows)
 
 -- nothing flows
 pub record NoFlow (flows : List Flows) : Type 0 where
@@ -43,7 +44,8 @@ pub record Ended (s : Steps) (cells : List Cell) (flows : List Flows) (costs : L
   pub price : (u d : ℕ) → is_square s u ≡ true → d < 4 → unsigned_abs (cost_in costs (ahead (stride s)) u d) ≡ price_by s u d
   pub supply : (u : ℕ) → is_square s u ≡ true → supply_in cells flows (ahead (stride s)) u ≡ supply s u
   pub none : (u : ℕ) → is_square s u ≡ true → excess_in cells (ahead (stride s)) u ≡ pos 0
-  pub small : (u d : ℕ) → is_square s u ≡ true → d < 4 → unsigned_abs (flow_in flows (ahead (stride s)) u d) ≤ 263169
+  pub small : (u d : ℕ) → is_square s u ≡ true → d < 4 → unsigned_abs (flow_in flows (ahead (stride s)) u d) ≤ suc s.high * stride s
+  pub size : suc s.high * stride s ≤ 263169
   pub wide : 2 ≤ s.wide
   pub high : 2 ≤ s.high
 

@@ -1,7 +1,9 @@
 -- From expected steps and what flows across them to turns that cost least.
 use Rattle.std.proofs.Common.{◌≡◌, ℕ, suc, pred, ◌+◌, ◌*◌, ◌^◌, ◌<◌, ◌≤◌, ◌⊎◌, inl, inr, List, length, get_or, ℤ, pos, negsuc, ◌+ℤ◌, ◌-ℤ◌, ◌*ℤ◌, nat_abs, sym, refl, ap, ap₂, ◌∙◌, subst, mul_comm, arith}
 use Rattle.std.proofs.lemmas.Int.{ints}
-use Rattle.std.proofs.lemmas.Nat.{mul-add-lt}
+use Rattle.std.proofs.lemmas.Bool.{cases_lt}
+use Rattle.std.proofs.lemmas.List.{get_or_past}
+use Rattle.std.proofs.lemmas.Nat.{mul-add-lt, mul-le}
 use Rattle.sums.specs.Sum.{sum_ℤ}
 use Rattle.sums.proofs.Sum.{sum_ℤ_ext}
 use Rattle.phase_field.specs.Field.{Field, Fit, field_in, turns_in, wrap_count}
@@ -15,10 +17,10 @@ use Rattle.sums.proofs.Ring.{mul_cancel_ℤ, zero_mul_ℤ, one_mul_ℤ}
 use Rattle.net_cells.specs.declared.cell.Flows.{Flows}
 use Rattle.squares_build.specs.Steps.{sized}
 use Rattle.squares_solve.specs.Solved.{Solved}
-use Rattle.phase_turns.specs.Follow.{Integrated}
+use Rattle.phase_turns.specs.Follow.{AllWithin, StepsWithin, Integrated}
 use Rattle.squares_cells.specs.Squares.{Across, across, heights_by}
 use Rattle.squares_solve.specs.Flows.{Added, Within}
-use Rattle.squares_turns.specs.Least.{ExpectedIn, Crossed}
+use Rattle.squares_turns.specs.Least.{ExpectedIn, Crossed, most_turns}
 
 -- over the lists heights cost what they do over the field
 pub same_cost : (f : Field) (right below : List ℤ) (h : Heights) → ExpectedIn f right below → heights_cost (steps_in f right below) h ≡ heights_cost (turn_steps f) h
@@ -59,12 +61,31 @@ crossed_least f right below right' below' room told e c i =
     least_from_turns f (turns_in f.wide room)
     (λ h. omega (arith, same_cost f right below (turns_in f.wide room) e, same_heights f right below right' below' room told c i, c.least h, same_cost f right below h e))
 
+-- and no more of them than most_turns says, either way
+pub crossed_few : (f : Field) (right below right' below' room : List ℤ) (told : ℕ) → Crossed f right below right' below' told → Integrated f.wide f.high right' below' room → length room ≡ f.wide * f.high →
+    AllWithin (most_turns f.wide f.high) room
+crossed_few f right below right' below' room told c i e k = elim (cases_lt k (f.wide * f.high)) [
+  | inl l ↦ i.small (1 + (f.high + 1) * (f.wide + 1)) c.few k l
+  | inr l ↦ rw (get_or_past room k (pos 0) (omega (arith, e, l))) (omega arith)
+]
+
+-- where a field is no larger than 64 by 64
+pub few_in_64 : (w h w' h' : ℕ) (room : List ℤ) → w' ≡ w → h' ≡ h → w ≤ 64 → h ≤ 64 → AllWithin (most_turns w' h') room → AllWithin (most_turns 64 64) room
+few_in_64 w h w' h' room p q k l a i =
+    omega (arith, a i, mul-le (w' + h') (1 + (h' + 1) * (w' + 1)) 128 4226 (omega arith) (omega (arith, mul-le (h' + 1) (w' + 1) 65 65 (omega arith) (omega arith))))
+
+-- no more than one turn is expected of a step
+expected_few : (f : Field) (right below : List ℤ) → ExpectedIn f right below → StepsWithin (1 + (f.high + 1) * (f.wide + 1)) f.wide f.high right below
+unfolding turns_in
+expected_few f right below e = record { to_right = λ x y k l. omega (arith, e.right_small (y * f.wide + x)); to_below = λ x y k l. omega (arith, e.below_small (y * f.wide + x)) }
+
 -- where all comes back nothing has to flow, and turns that follow what is expected cost nothing
 pub back_crossed : (f : Field) (right below : List ℤ) → ExpectedIn f right below → NoResidues (steps_in f right below) → Crossed f right below right below 0
 back_crossed f right below e n = record {
   across = none;
   to_right = record { is = λ x y k l. omega (arith, ints); few = λ k. omega (arith, e.right_small k) };
   to_below = record { is = λ x y k l. omega (arith, ints); few = λ k. omega (arith, e.below_small k) };
+  few = expected_few f right below e;
   cost = sym free;
   least = λ h. omega (arith, free);
 }
@@ -132,14 +153,18 @@ few_residues f right below fit e x y k l =
     alike = omega (arith, ints, e.right_at x y k (omega arith), e.below_at (suc x) y k l, e.below_at x y (omega arith) l, e.right_at x (suc y) k l)
 
 -- where a settled flow is added to steps
-pub crossed : (f : Field) (right below right' below' : List ℤ) (flows : List Flows) (told : ℕ) → Solved (steps_in f right below) flows told →
+pub crossed : (f : Field) (right below right' below' : List ℤ) (flows : List Flows) (told : ℕ) → ExpectedIn f right below → Solved (steps_in f right below) flows told →
     Added f.wide (pred f.wide) f.high (across (sized f.wide f.high) flows).right right right' → Added f.wide f.wide (pred f.high) (across (sized f.wide f.high) flows).below below below' →
     Crossed f right below right' below' told
-unfolding steps_in
-crossed f right below right' below' flows told s a b = record {
+unfolding steps_in turns_in
+crossed f right below right' below' flows told e s a b = record {
   across = across (sized f.wide f.high) flows;
   to_right = a;
   to_below = b;
+  few = record {
+    to_right = λ x y k l. omega (arith, ints, a.is x y (omega arith) l, e.right_small (y * f.wide + x), s.few.right x y k l);
+    to_below = λ x y k l. omega (arith, ints, b.is x y k (omega arith), e.below_small (y * f.wide + x), s.few.below x y k l);
+  };
   cost = s.cost_is;
   least = s.least;
 }

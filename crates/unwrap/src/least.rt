@@ -5,7 +5,8 @@ ghost use Rattle.phase_field.specs.Model.{field_of};
 ghost use Rattle.phase_cost.specs.Cost.{cost, Least};
 ghost use Rattle.phase_cost.specs.Steps.{steps_in, NoResidues};
 ghost use Rattle.squares_turns.specs.Lists.{field_lent};
-ghost use Rattle.squares_turns.specs.Least.{ExpectedIn, Crossed};
+ghost use Rattle.squares_turns.specs.Least.{ExpectedIn, Crossed, most_turns};
+ghost use Rattle.phase_turns.specs.Follow.{AllWithin};
 
 use net_cells::{Cell, Costs, Flows, Mark};
 use net_cells_search::{Entry, Queue, Room as Search};
@@ -104,6 +105,7 @@ fn write_by<const CELLS: usize>(
     ensures cost { result ≡ cost (field_lent lists.now) (turns_in lists.now.wide room.new) }
     ensures first { slice_index_or room.new 0 (pos 0) ≡ pos 0 }
     ensures least { Least (field_lent lists.now) (turns_in lists.now.wide room.new) }
+    ensures small { AllWithin (most_turns lists.now.wide lists.now.high) room.new }
 {
     expect_steps(lists, right, below);
     let turns = settle_steps::<CELLS>(lists, right, below);
@@ -122,6 +124,7 @@ fn write_in<const PLACES: usize, const CELLS: usize>(field: &Field, room: &mut [
     ensures cost { result ≡ cost (field_of field.now) (turns_in field.now.wide room.new) }
     ensures first { slice_index_or room.new 0 (pos 0) ≡ pos 0 }
     ensures least { Least (field_of field.now) (turns_in field.now.wide room.new) }
+    ensures small { AllWithin (most_turns 64 64) room.new }
 {
     let mut right = [0; PLACES];
     let mut below = [0; PLACES];
@@ -135,6 +138,7 @@ pub fn write_least(field: &Field, room: &mut [i64]) -> u64
     ensures cost { result ≡ cost (field_of field.now) (turns_in field.now.wide room.new) }
     ensures first { slice_index_or room.new 0 (pos 0) ≡ pos 0 }
     ensures least { Least (field_of field.now) (turns_in field.now.wide room.new) }
+    ensures small { AllWithin (most_turns 64 64) room.new }
 {
     if field.wide <= 16 && field.high <= 16 {
         return write_in::<256, 290>(field, room);

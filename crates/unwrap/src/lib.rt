@@ -6,7 +6,7 @@ ghost use Rattle.phase_field.specs.Field.{turns_in};
 ghost use Rattle.phase_field.specs.Model.{field_of};
 ghost use Rattle.phase_input.specs.Input.{input, field_lent, verdict, number};
 ghost use Rattle.phase_cost.specs.Cost.{cost, Least, AllComeBack};
-ghost use Rattle.unwrap.specs.Promise.{FindsAgain};
+ghost use Rattle.unwrap.specs.Promise.{FindsAgain, FewTurns};
 ghost use Rattle.unwrap.specs.declared.Done.TheVariants as done;
 
 mod least;
@@ -26,7 +26,7 @@ pub enum Done {
 }
 
 /// Leaves a whole number of turns for each place of the field in a room that has as many numbers, row by row, 0 for the first place, than
-/// which no turns cost less, and answers what they cost.
+/// which no turns cost less, and answers what they cost. No place has more than 540,928 turns, either way.
 pub fn unwrap_field(field: &Field, room: &mut [i64]) -> u64
     requires { length room.old ≡ field.now.wide * field.now.high }
     ensures cost { result ≡ cost (field_of field.now) (turns_in field.now.wide room.new) }
@@ -34,6 +34,7 @@ pub fn unwrap_field(field: &Field, room: &mut [i64]) -> u64
     ensures least { Least (field_of field.now) (turns_in field.now.wide room.new) }
     ensures nothing { AllComeBack (field_of field.now) → result ≡ 0 }
     ensures found { FindsAgain (field_of field.now) (turns_in field.now.wide room.new) }
+    ensures small { FewTurns 540928 room.new }
 {
     write_least(field, room)
 }

@@ -35,7 +35,7 @@ loop-y-preserved c =
     let one : w ≡ y * w + w - y * w = omega arith in
     let long : length c.follow_row.new.row ≡ w = c.follow_row.auto.row ∙ part in
     rows_more w c.args.high _ c.args.right.now c.args.below.now c.loop-y.room c.row_of.result.now c.follow_row.new.row y _ _ c.loop-y.invariant c.loop-y-test.true n
-    c.row_of.ensures long c.follow_row.ensures c.requires.below_few one
+    c.row_of.ensures long c.follow_row.ensures.is c.requires.below_few one
     (omega (arith, ints, c.requires.below_few (y * w), c.loop-y.invariant.small, c.requires.high_bound))
 
 pub returns : goal.returns

@@ -9,4 +9,4 @@ add_flows-requires-clause-within c =
 pub returns-clause-crossed : goal.returns-clause-crossed
 returns-clause-crossed c =
     crossed (field_lent c.args.lists.now) c.args.right.now c.args.below.now c.add_flows.new.to_right c.add_flows.new.to_below c.args.flows.now c.told-cost.result
-    c.told-cost.ensures.solved c.add_flows.ensures.right c.add_flows.ensures.below
+    c.requires.expected c.told-cost.ensures.solved c.add_flows.ensures.right c.add_flows.ensures.below

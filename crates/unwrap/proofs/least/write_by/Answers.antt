@@ -1,7 +1,7 @@
-use Rattle.std.proofs.Common.{◌≡◌, ℕ, ◌∙◌, ap, ◌*◌, rules}
+use Rattle.std.proofs.Common.{◌≡◌, ℕ, ◌∙◌, ap, ◌*◌, arith, rules}
 use Rattle.squares_turns.specs.Lists.{field_lent}
 use Rattle.phase_turns.proofs.Following.{integrated_first}
-use Rattle.squares_turns.proofs.Putting.{crossed_cost, crossed_least}
+use Rattle.squares_turns.proofs.Putting.{crossed_cost, crossed_least, crossed_few}
 use Rattle.unwrap.proofs.least.write_by.Goals as goal
 
 pub returns-clause-cost : goal.returns-clause-cost
@@ -22,3 +22,8 @@ returns-clause-least g c =
     let f = field_lent c.args.lists.now in
     crossed_least f c.expect_steps.new.right c.expect_steps.new.below c.settle_steps-turns.new.right c.settle_steps-turns.new.below c.follow.new.room c.settle_steps-turns.result
     c.expect_steps.ensures c.settle_steps-turns.ensures.crossed c.follow.ensures
+
+pub returns-clause-small : goal.returns-clause-small
+returns-clause-small g c =
+    crossed_few (field_lent c.args.lists.now) c.expect_steps.new.right c.expect_steps.new.below c.settle_steps-turns.new.right c.settle_steps-turns.new.below c.follow.new.room c.settle_steps-turns.result
+    c.settle_steps-turns.ensures.crossed c.follow.ensures (omega (arith, c.follow.auto.room, c.requires.room_len))
