@@ -33,7 +33,7 @@ cheap : (c p q : ℤ) (n : ℕ) → nat_abs c ≤ 1073741824 → nat_abs p ≤ 2
 cheap c p q n h i j k = omega (arith, ints)
 
 -- a sum of signed numbers as the code has it
-sum_fits : (l r c : ℤ) → nat_abs l ≤ 2 ^ 60 + 2 ^ 58 → nat_abs c ≤ 2 ^ 60 + 2 ^ 30 → r ≡ c → to_z w64 (of_z w64 (to_z w64 (of_z w64 l) +ℤ to_z w64 (of_z w64 r))) ≡ (l +ℤ c)
+pub sum_fits : (l r c : ℤ) → nat_abs l ≤ 2 ^ 60 + 2 ^ 58 → nat_abs c ≤ 2 ^ 60 + 2 ^ 30 → r ≡ c → to_z w64 (of_z w64 (to_z w64 (of_z w64 l) +ℤ to_z w64 (of_z w64 r))) ≡ (l +ℤ c)
 sum_fits l r c h i e = omega (arith, ints)
 
 module _ (g : Graph) (w : IsNetwork g) (s : State) (o : Sound g s) (t : Tree) (i : IsPathTree g s t) where

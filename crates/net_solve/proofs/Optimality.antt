@@ -35,4 +35,4 @@ pub meaning : (g : Graph) (w : IsNetwork g) (e : ℕ → ℤ) (s : State) (place
 meaning g w e s place r o = means g w e s place r o.flows o.priced o.supplies o.answer
 
 pub never : AlwaysFeasible
-never g w e even joined s place k o = joined_never_full g w e s.flow o.flows even joined (λ v. ltb (place v) k.nodes) (is_full g e s place k.nodes o.supplies o.answer)
+never g w e even joined s place k flows supplies cut = joined_never_full g w e s.flow flows even joined (λ v. ltb (place v) k.nodes) (is_full g e s place k.nodes supplies cut)

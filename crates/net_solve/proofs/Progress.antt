@@ -9,10 +9,10 @@ use Rattle.net_search.specs.Tree.{SameSlices}
 use Rattle.net_search.specs.declared.search.Search.{Search}
 use Rattle.net_solve.specs.Inner.{Progress}
 
-later_none : (g : Graph) (s : State) → Later g s s
+pub later_none : (g : Graph) (s : State) → Later g s s
 later_none g s = record { supplies = λ v h. refl; moved = λ a h. omega arith; leaves = λ v. omega (arith, ints); comes = λ v. omega (arith, ints) }
 
-later_more : (g : Graph) (s t u : State) → Later g s t → Later g t u → Later g s u
+pub later_more : (g : Graph) (s t u : State) → Later g s t → Later g t u → Later g s u
 later_more g s t u a b = record { supplies = λ v h. b.supplies v h ∙ a.supplies v h; moved = λ c h. omega (arith, a.moved c h, b.moved c h); leaves = λ v. omega (arith, ints, a.leaves v, b.leaves v); comes = λ v. omega (arith, ints, a.comes v, b.comes v) }
 
 -- a search alone is progress

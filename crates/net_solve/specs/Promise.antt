@@ -61,4 +61,5 @@ abbrev pub AlwaysFeasible : Type 0
 AlwaysFeasible =
     (g : Graph) → IsNetwork g → (e : ℕ → ℤ) → sum_ℤ g.nodes e ≡ pos 0 →
     ((u v : ℕ) → u < g.nodes → v < g.nodes → Joined g (pos (sum_to g.nodes (λ w. up (e w)))) u v) →
-    (s : State) (place : ℕ → ℕ) (infeasible : Infeasible) → IsSolution g e s place (Err infeasible) → ⊥
+    (s : State) (place : ℕ → ℕ) (infeasible : Infeasible) → IsPseudoflow g s.flow →
+    ((v : ℕ) → v < g.nodes → supply g s v ≡ e v) → IsPlacedCut g s place infeasible.nodes → ⊥

@@ -9,4 +9,4 @@ mod solver;
 
 pub use infeasible::{Infeasible, always_feasible};
 pub use initial::start;
-pub use solver::{solve, solve_from};
+pub use solver::{solve, solve_from, solve_in};

@@ -1,8 +1,8 @@
 // Successive shortest paths: excess goes along shortest paths to deficits, one path after another.
-ghost use Rattle.std.specs.Prelude.{◌≡◌, ℕ, ◌%◌, ◌<◌, pos, ◌≤ℤ◌, IfErr, OnOk, IsTrue, IsFalse};
+ghost use Rattle.std.specs.Prelude.{◌≡◌, ℕ, ◌%◌, ◌<◌, length, pos, ◌≤ℤ◌, IfErr, OnOk, IsTrue, IsFalse};
 ghost use Rattle.net_graph.specs.Network.{graph};
 ghost use Rattle.net_graph.specs.Sound.{state, Sound};
-ghost use Rattle.net_search.specs.Label.{infinity};
+ghost use Rattle.net_search.specs.Label.{infinity, place_of};
 ghost use Rattle.net_search.specs.Tree.{tree, HasLengths, SameSlices};
 ghost use Rattle.net_search.specs.Path.{Cut};
 ghost use Rattle.net_solve.specs.Promise.{Balanced, IsPlacedCut, Outcome, IsSolution, IsOptimal, SameFlow};
@@ -12,7 +12,7 @@ use crate::augment::augment;
 use crate::infeasible::Infeasible;
 use crate::initial::start;
 use net_graph::Flow;
-use net_search::{INFINITY, Search};
+use net_search::{INFINITY, Label, Search};
 
 // How far apart nodes are whose excess is sent one after the other. Neighbours would use up the deficits near them, and those that
 // come last would have to search far.
@@ -133,4 +133,25 @@ pub fn solve(flow: &mut Flow, search: &mut Search) -> Result<(), Infeasible>
 {
     start(flow);
     solve_from(flow, search)
+}
+
+/// `solve` on slices for a search, one element for each node. What these hold before does not matter either.
+pub fn solve_in(
+    flow: &mut Flow,
+    labels: &mut [Label],
+    order: &mut [usize],
+    frontier: &mut [usize],
+) -> Result<(), Infeasible>
+    requires labels { length labels.old ≡ (graph flow.old.net).nodes }
+    requires order { length order.old ≡ (graph flow.old.net).nodes }
+    requires frontier { length frontier.old ≡ (graph flow.old.net).nodes }
+    requires balanced { Balanced (graph flow.old.net).nodes (state flow.old).excess }
+    ensures same { SameFlow flow.old flow.new }
+    ensures solution { IsSolution (graph flow.old.net) (state flow.old).excess (state flow.new)
+        (place_of labels.new) result }
+    ensures optimal { IsOptimal (graph flow.old.net) (state flow.old).excess
+        (state flow.new).flow result }
+{
+    let mut search = Search::new(labels, order, frontier);
+    solve(flow, &mut search)
 }

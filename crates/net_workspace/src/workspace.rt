@@ -5,7 +5,7 @@ ghost use Rattle.net_graph.specs.Network.{graph};
 use net_build::{ArcLists, Edge, EdgeList, build};
 use net_graph::{Arc, Flow, Network, Node};
 use net_search::{Label, Search};
-use net_solve::{Infeasible, solve};
+use net_solve::{Infeasible, solve_in};
 use net_waves::{Height, Tight, WaveSlices, solve_by_waves};
 
 /// What a cheapest flow along edges is worked out on: slices of local arrays, or of vectors (`Buffers`). What they hold before does not
@@ -94,8 +94,7 @@ fn solve_network(
         (place_of labels.new) result }
 {
     let mut flow = Flow { net, flow, nodes };
-    let mut search = Search::new(labels, order, frontier);
-    solve(&mut flow, &mut search)
+    solve_in(&mut flow, labels, order, frontier)
 }
 
 // The same by waves first.

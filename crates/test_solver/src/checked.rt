@@ -9,8 +9,8 @@ ghost use Rattle.test_solver.specs.declared.checked.Refusal.TheVariants as refus
 use crate::lists::{Lists, Malformed};
 use crate::supplies::balanced;
 use net_graph::{Flow, Network, Node};
-use net_search::{Label, Search};
-use net_solve::{Infeasible, solve};
+use net_search::Label;
+use net_solve::{Infeasible, solve_in};
 
 /// The slices that the solver works on: a flow by arcs, the nodes, which have the supplies in excess, and what a search needs, which is
 /// written while the flow is read.
@@ -92,11 +92,11 @@ pub fn try_solve(lists: Lists<'_>, slices: &mut Slices) -> Result<(), Refusal>
         flow: &mut *slices.flow,
         nodes: &mut *slices.nodes,
     };
-    let mut search = Search::new(
+    solve_in(
+        &mut flow,
         &mut *slices.labels,
         &mut *slices.order,
         &mut *slices.frontier,
-    );
-    solve(&mut flow, &mut search)?;
+    )?;
     Ok(())
 }
