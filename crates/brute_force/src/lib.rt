@@ -58,13 +58,8 @@ fn least_of(field: &Field, expected: &Steps, codes: u64) -> u64
     least
 }
 
-/// The least cost of turns from -2 to 2 for a field of at most six places; None where it has more.
-///
-/// No turns whatever cost less. Some of those that cost least have a spanning tree of steps that are as expected, since places that no such
-/// step joins to the rest can be turned together, one way or the other, at no more cost until one does. A way in the tree has five steps at
-/// most, each of half a turn at most, so heights differ by two and a half turns at most, what was seen by less than one, and turns by three
-/// at most. This is not proved.
-pub fn least_tried(field: &Field, expected: &Steps) -> Option<u64>
+// `least_tried` by steps that are as expected.
+fn least_by(field: &Field, expected: &Steps) -> Option<u64>
     requires { Expected (field_of field.now) expected.now.right expected.now.below }
     ensures some { IsSome result ↔ (field.now.wide * field.now.high ≤ 6) }
     ensures least { IfSome result (LeastTried (field_of field.now)) }
@@ -77,12 +72,25 @@ pub fn least_tried(field: &Field, expected: &Steps) -> Option<u64>
     Some(least_of(field, expected, 5u64.pow(places as u32)))
 }
 
+/// The least cost of turns from -2 to 2 for a field of at most six places; None where it has more.
+///
+/// No turns whatever cost less. Some of those that cost least have a spanning tree of steps that are as expected, since places that no such
+/// step joins to the rest can be turned together, one way or the other, at no more cost until one does. A way in the tree has five steps at
+/// most, each of half a turn at most, so heights differ by two and a half turns at most, what was seen by less than one, and turns by three
+/// at most. This is not proved.
+pub fn least_tried(field: &Field) -> Option<u64>
+    ensures some { IsSome result ↔ (field.now.wide * field.now.high ≤ 6) }
+    ensures least { IfSome result (LeastTried (field_of field.now)) }
+{
+    least_by(field, &Steps::expected(field))
+}
+
 /// Whether the turns in a room cost what was answered, nothing that can be tried costs less, and the first of them is 0.
 pub fn agrees(field: &Field, room: &[i64], answered: u64) -> bool
     ensures { IsTrue result ↔ Agrees (field_of field.now) room.now answered }
 {
     let expected = Steps::expected(field);
-    least_tried(field, &expected) == Some(answered)
+    least_by(field, &expected) == Some(answered)
         && cost(field, &expected, room) == Some(answered)
         && room.first() == Some(&0)
 }

@@ -12,14 +12,16 @@ pub struct Steps {
     pub below: [i64; PLACES],
 }
 
-// What is told of each place. (`array::from_fn` has a clause for each of the 4,096.)
-fn listed<F: Fn(usize) -> i64>(told: F) -> [i64; PLACES]
-    requires { F.IsAlwaysCallable told }
-    ensures { (p : ℕ) → p < 4096 → F.post told p (slice_index_or result p (pos 0)) }
+// What is told of each of so many places, and 0 past the last. (`array::from_fn` has a clause for each of the 4,096.)
+fn listed<F: Fn(usize) -> i64>(places: usize, told: F) -> [i64; PLACES]
+    requires callable { F.IsAlwaysCallable told }
+    requires few { places ≤ 4096 }
+    ensures told { (p : ℕ) → p < places → F.post told p (slice_index_or result p (pos 0)) }
+    ensures none { (p : ℕ) → places ≤ p → slice_index_or result p (pos 0) ≡ pos 0 }
 {
     let mut all = [0; PLACES];
-    for (place, turns) in all.iter_mut().enumerate() {
-        *turns = told(place);
+    for place in 0..places {
+        all[place] = told(place);
     }
     all
 }
@@ -41,9 +43,10 @@ impl Steps {
             ensures none { (HasBelow (field_of field.entry.now) place → ⊥) → result ≡ pos 0 }
             ensures small { unsigned_abs result ≤ 1 }
         { field.turns_below(place).unwrap_or(0) };
+        let places = field.places();
         Steps {
-            right: listed(right),
-            below: listed(below),
+            right: listed(places, right),
+            below: listed(places, below),
         }
     }
 }

@@ -3,7 +3,7 @@ use Rattle.phase_field.specs.Model.{field_of}
 use Rattle.phase_cost.specs.Cost.{cost}
 use Rattle.brute_force.specs.Tried.{LeastOf, turns_of}
 use Rattle.brute_force.proofs.Codes.{few_codes, some_code, all_coded}
-use Rattle.brute_force.proofs.least_tried.Goals as goal
+use Rattle.brute_force.proofs.least_by.Goals as goal
 
 pub pow-requires : goal.pow-requires
 pow-requires c = omega (arith, few_codes c.places-places.result (omega arith))
