@@ -26,7 +26,8 @@ fn gives(cells: &[Cell], side: Side, u: usize) -> bool
     }
 }
 
-// Sends what `source` has in excess to ends nearer than `within`, until it has nothing in excess or there is no such end.
+// Sends what `source` has in excess to ends nearer than `within`, until it has nothing in excess or there is no such end: then it answers how
+// many cells the search in vain has met, and else 0.
 fn drain(
     cells: &mut [Cell],
     flows: &mut [Flows],
@@ -35,7 +36,7 @@ fn drain(
     room: &mut Room,
     source: usize,
     within: i32,
-)
+) -> usize
     requires fenced { Fenced cells.old costs.old side }
     requires sound { Sound cells.old flows.old costs.old side }
     requires room { RoomFor (length cells.old) room.old }
@@ -53,12 +54,15 @@ fn drain(
 {
     while gives(cells, side, source) {
         if !augment(cells, flows, costs, side, room, source, within) {
-            return;
+            return room.count;
         }
     }
+    0
 }
 
-/// Sends what the first `count` listed cells have in excess, as it is seen, to ends nearer than `within`, as long as there are such ends.
+/// Sends what the first `count` listed cells have in excess, as it is seen, to ends nearer than `within`, as long as there are such ends;
+/// but where searches in vain have met more than half as many cells as there are, a larger radius is better, and the rest is left to it,
+/// unless there is none.
 pub fn pass(
     cells: &mut [Cell],
     flows: &mut [Flows],
@@ -86,9 +90,14 @@ pub fn pass(
     ensures everywhere { within ≡ far → (k : ℕ) → k < count →
         excess_in cells.new side (slice_index list.now k) ≤ℤ pos 0 }
 {
+    let mut in_vain: usize = 0;
     for k in 0..count {
         let source = list[k] as usize;
-        drain(cells, flows, costs, side, room, source, within);
+        let met = drain(cells, flows, costs, side, room, source, within);
+        in_vain = in_vain.saturating_add(met);
+        if within < FAR && in_vain > cells.len() / 2 {
+            return;
+        }
     }
 }
 
@@ -148,20 +157,18 @@ fn round(
     pass(cells, flows, costs, rear, room, list, count, within);
 }
 
-// How far to look next: half as far again, and four times as far where no cell was done with.
+// How far to look next: half as far again, and everywhere where no cell was done with.
 fn wider(within: i32, done: bool) -> i32
     requires some { pos 0 ≤ℤ within }
     requires near { within <ℤ pos (2 ^ 29) }
     ensures more { within <ℤ result }
     ensures near { result ≤ℤ far }
 {
+    if !done {
+        return FAR;
+    }
     let radius = within as u32;
-    let next = if done {
-        radius + radius / 2
-    } else {
-        4 * radius
-    };
-    (next + 1).min(1 << 30) as i32
+    (radius + radius / 2 + 1).min(1 << 30) as i32
 }
 
 /// Settles a flow between cells: all that is in excess goes to cells that lack something, or outside, along cheapest ways, and all that is
