@@ -8,6 +8,7 @@ mod tests {
     use report::{Form, View, answer_to_text};
     use std::alloc::Global;
     use std::test::Fail;
+    use text::draft::Draft;
     use text_locate::place::place_of;
 
     // The number and the place of a refusal; None where the text is taken. Here and below the heap is handed on with a text to one call.
@@ -113,6 +114,15 @@ mod tests {
                 "1 4 7\n2 5 8\ncost 0\n",
             )
         );
+    }
+
+    #[test]
+    fn lines_are_taken_by_value(rt: HostRuntime) -> Result<(), Fail> {
+        let draft = Draft::new(rt.alloc()).with_line(b"turn 10")?;
+        let document = draft.with_line(b"squares")?.finished()?;
+        assert_eq!(rt; document.turn, 10);
+        assert!(rt; document.squares);
+        Ok(())
     }
 
     #[test]

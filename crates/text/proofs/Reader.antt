@@ -6,6 +6,7 @@ use Rattle.text_lines.specs.declared.flaw.Fault.TheVariants.{Flawed, Memory}
 use Rattle.text.specs.declared.draft.Draft.{Draft}
 use Rattle.text.specs.declared.document.Unread.{Unread}
 use Rattle.text.specs.Draft.{Notes, notes, step, Drafted}
+use Rattle.text.specs.Section.{leaving}
 use Rattle.text.specs.Document.{Contents, Unreadable, finished, or_line, read_from, stopped_at, Reads}
 
 abbrev Read : Type 0
@@ -33,22 +34,23 @@ read_more : (n : ℕ) (d : Notes) (ls ms : List (List ℕ)) (l : List ℕ) (next
 read_more n d ls ms l next e q =
     ap (λ (k : ℕ). read_from k (notes next) ms) (add-one n) ∙ ap (after n ms) (sym q) ∙ sym (from_line n d l ms) ∙ ap (read_from n d) (sym e)
 
--- ---- a draft or a fault, of which the line is told
+-- ---- what a draft is after a line, or a fault, of which the line is told
 
-pub told_stops : (n : ℕ) (d : Notes) (ls ms : List (List ℕ)) (l : List ℕ) (r : Read) (made : Result Draft Fault) (told : Result Draft Unread) (u : Unread) → ls ≡ l ∷ ms → Drafted (step d l) made
-    → MatchResult made (λ x. told ≡ Ok x) (λ f. IsErrAnd told (λ why. why ≡ stopped_at f n)) → told ≡ Err u → read_from n d ls ≡ r → Reads r (Err u)
-told_stops n d ls ms l r (Ok x) told u e q m p h = absurd (not_both (sym m ∙ p))
+pub told_stops : {A : Type 0} (n : ℕ) (d : Notes) (ls ms : List (List ℕ)) (l : List ℕ) (r : Read) (now : Draft) (made : Result A Fault) (told : Result A Unread) (u : Unread) → ls ≡ l ∷ ms
+    → Drafted (step d l) (leaving now made) → MatchResult made (λ x. told ≡ Ok x) (λ f. IsErrAnd told (λ why. why ≡ stopped_at f n)) → told ≡ Err u → read_from n d ls ≡ r → Reads r (Err u)
+told_stops n d ls ms l r now (Ok x) told u e q m p h = absurd (not_both (sym m ∙ p))
   where
-    not_both : {x : Draft} {u : Unread} → Ok x ≡ Err u → ⊥
-    not_both s = subst (λ (y : Result Draft Unread). MatchResult y (λ x. Unit {0}) (λ u. ⊥)) s tt
-told_stops n d ls ms l r (Err f) told u e q m p h =
-    rw (subst (λ (y : Result Draft Unread). IsErrAnd y (λ why. why ≡ stopped_at f n)) p m) (read_stops n d ls ms l r f e q h)
+    not_both : {A : Type 0} {x : A} {u : Unread} → Ok x ≡ Err u → ⊥
+    not_both {A} s = subst (λ (y : Result A Unread). MatchResult y (λ x. Unit {0}) (λ u. ⊥)) s tt
+told_stops {A} n d ls ms l r now (Err f) told u e q m p h =
+    rw (subst (λ (y : Result A Unread). IsErrAnd y (λ why. why ≡ stopped_at f n)) p m) (read_stops n d ls ms l r f e q h)
 
-told_next : (r : Result Notes Flaw) (made : Result Draft Fault) (told : Result Draft Unread) (next : Draft) (P : Fault → Unread → Type 0) → Drafted r made
-    → MatchResult made (λ x. told ≡ Ok x) (λ f. IsErrAnd told (P f)) → told ≡ Ok next → Drafted r (Ok next)
-told_next r (Ok x) told next P q m p = subst (λ (y : Result Draft Unread). MatchResult y (λ d. Drafted r (Ok d)) (λ u. ⊥)) (sym m ∙ p) q
-told_next r (Err f) told next P q m p = absurd (subst (λ (y : Result Draft Unread). IsErrAnd y (P f)) p m)
+told_next : {A : Type 0} (r : Result Notes Flaw) (now : Draft) (made : Result A Fault) (told : Result A Unread) (a : A) (P : Fault → Unread → Type 0) → Drafted r (leaving now made)
+    → MatchResult made (λ x. told ≡ Ok x) (λ f. IsErrAnd told (P f)) → told ≡ Ok a → Drafted r (Ok now)
+told_next r now (Ok x) told a P q m p = q
+told_next {A} r now (Err f) told a P q m p = absurd (subst (λ (y : Result A Unread). IsErrAnd y (P f)) p m)
 
-pub told_more : (n : ℕ) (d : Notes) (ls ms : List (List ℕ)) (l : List ℕ) (made : Result Draft Fault) (told : Result Draft Unread) (next : Draft) → ls ≡ l ∷ ms → Drafted (step d l) made
-    → MatchResult made (λ x. told ≡ Ok x) (λ f. IsErrAnd told (λ why. why ≡ stopped_at f n)) → told ≡ Ok next → read_from (n + 1) (notes next) ms ≡ read_from n d ls
-told_more n d ls ms l made told next e q m p = read_more n d ls ms l next e (told_next (step d l) made told next (λ f why. why ≡ stopped_at f n) q m p)
+pub told_more : {A : Type 0} (n : ℕ) (d : Notes) (ls ms : List (List ℕ)) (l : List ℕ) (now : Draft) (made : Result A Fault) (told : Result A Unread) (a : A) → ls ≡ l ∷ ms
+    → Drafted (step d l) (leaving now made) → MatchResult made (λ x. told ≡ Ok x) (λ f. IsErrAnd told (λ why. why ≡ stopped_at f n)) → told ≡ Ok a
+    → read_from (n + 1) (notes now) ms ≡ read_from n d ls
+told_more n d ls ms l now made told a e q m p = read_more n d ls ms l now e (told_next (step d l) now made told a (λ f why. why ≡ stopped_at f n) q m p)

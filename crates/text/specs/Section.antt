@@ -42,6 +42,11 @@ with_price_by b p (Picture (Some q)) = Err SecondPrice
 abbrev pub with_price : Block → ℕ → Result Block Flaw
 with_price b p = with_price_by b p b.content
 
+-- what a call left, where it went well
+abbrev pub leaving : {A B E : Type 0} → B → Result A E → Result B E
+leaving b (Ok a) = Ok b
+leaving b (Err e) = Err e
+
 -- the section is that block, or it can't be read, unless there is no memory for it
 abbrev pub HasRow : Result Block Flaw → Result Section Fault → Type 0
 HasRow r (Ok s) = r ≡ Ok (block s)

@@ -75,7 +75,7 @@ pub fn read(heap: Global, text: &[u8]) -> Result<Document, Unread>
         let at_line = |fault: Fault| -> Unread
             ensures { result ≡ stopped_at fault number }
         { stopped_at(fault, number as u64) };
-        draft = draft.with_line(line).map_err(at_line)?;
+        draft.take_line(line).map_err(at_line)?;
     }
     Ok(draft.finished()?)
 }

@@ -1,6 +1,7 @@
 // What has been read of a document.
 ghost use Rattle.std.specs.Prelude.{◌≡◌};
 ghost use Rattle.text.specs.Draft.{blank, notes, with_turn, with_price_of, with_row_of, step, Drafted};
+ghost use Rattle.text.specs.Section.{leaving};
 ghost use Rattle.text_lines.specs.Flaw.{mapped};
 ghost use Rattle.text_words.specs.Pieces.{words};
 
@@ -32,48 +33,51 @@ impl Draft {
         }
     }
 
-    // With a turn, unless it has one.
-    fn with_turn(self, n: u64) -> Result<Draft, Flaw>
-        ensures { mapped notes result ≡ with_turn (notes self) n }
+    // A turn, unless there is one.
+    fn take_turn(&mut self, n: u64) -> Result<(), Flaw>
+        ensures { mapped notes (leaving self.new result) ≡ with_turn (notes self.old) n }
     {
         if self.turn.is_some() {
             return Err(Flaw::SecondTurn);
         }
-        Ok(Draft {
-            turn: Some(n),
-            ..self
-        })
+        self.turn = Some(n);
+        Ok(())
     }
 
-    // With one price for all steps.
-    fn with_price(self, n: u64) -> Result<Draft, Flaw>
-        ensures { mapped notes result ≡ with_price_of (notes self) n }
+    // One price for all steps.
+    fn take_price(&mut self, n: u64) -> Result<(), Flaw>
+        ensures { mapped notes (leaving self.new result) ≡ with_price_of (notes self.old) n }
     {
-        let rows = self.rows.with_price(entry(n))?;
-        Ok(Draft { rows, ..self })
+        self.rows.take_price(entry(n))
     }
 
-    // With one more row.
-    fn with_row(self, line: &[u8]) -> Result<Draft, Fault>
-        ensures { Drafted (with_row_of (notes self) (words line.now)) result }
+    // One more row.
+    fn take_row(&mut self, line: &[u8]) -> Result<(), Fault>
+        ensures { Drafted (with_row_of (notes self.old) (words line.now))
+            (leaving self.new result) }
     {
-        let rows = self.rows.with_row(line)?;
-        Ok(Draft { rows, ..self })
+        self.rows.take_row(line)
     }
 
     /// With one more line.
-    pub fn with_line(self, line: &[u8]) -> Result<Draft, Fault>
+    pub fn with_line(mut self, line: &[u8]) -> Result<Draft, Fault>
         ensures { Drafted (step (notes self) line.now) result }
     {
+        self.take_line(line)?;
+        Ok(self)
+    }
+
+    /// One more line, written in place: a line costs no copy of what has been read.
+    pub fn take_line(&mut self, line: &[u8]) -> Result<(), Fault>
+        ensures { Drafted (step (notes self.old) line.now) (leaving self.new result) }
+    {
         match kind_of(line)? {
-            Kind::Nothing => Ok(self),
-            Kind::Turn(n) => Ok(self.with_turn(n)?),
-            Kind::Price(n) => Ok(self.with_price(n)?),
-            Kind::Squares => Ok(Draft {
-                squares: true,
-                ..self
-            }),
-            Kind::Row => self.with_row(line),
+            Kind::Nothing => {}
+            Kind::Turn(n) => self.take_turn(n)?,
+            Kind::Price(n) => self.take_price(n)?,
+            Kind::Squares => self.squares = true,
+            Kind::Row => self.take_row(line)?,
         }
+        Ok(())
     }
 }

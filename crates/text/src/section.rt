@@ -3,7 +3,7 @@ ghost use Rattle.std.specs.Prelude.{◌≡◌, [], ◌∷◌, ◌++◌, Ok, OnOk
 ghost use Rattle.text_words.specs.Numeral.{capped, largest_entry};
 ghost use Rattle.text_words.specs.Pieces.{words};
 ghost use Rattle.text_lines.specs.Flaw.{Stops, mapped};
-ghost use Rattle.text.specs.Section.{row_onto, block, empty_picture, with_row, with_price, HasRow};
+ghost use Rattle.text.specs.Section.{row_onto, block, empty_picture, with_row, with_price, leaving, HasRow};
 
 use std::alloc::{AllocError, Global};
 use text_lines::flaw::{Fault, Flaw, number_of};
@@ -34,8 +34,8 @@ fn push_number(numbers: &mut Vec<u32>, n: u64) -> Result<(), AllocError>
     Ok(())
 }
 
-// Puts the numbers of a line after those that are there.
-fn push_row(numbers: &mut Vec<u32>, line: &[u8]) -> Result<(), Fault>
+/// Puts the numbers of a line after those that are there.
+pub fn push_row(numbers: &mut Vec<u32>, line: &[u8]) -> Result<(), Fault>
     ensures ok { OnOk result (row_onto numbers.old.items (words line.now) ≡ Ok numbers.new.items) }
     ensures flawed { IfErr result (Stops (row_onto numbers.old.items (words line.now))) }
 {
@@ -57,9 +57,9 @@ impl Section {
         }
     }
 
-    // With one more row, if it is one, as wide as the others.
-    pub(crate) fn with_row(mut self, line: &[u8]) -> Result<Section, Fault>
-        ensures { HasRow (with_row (block self) (words line.now)) result }
+    // One more row, if it is one, as wide as the others.
+    pub(crate) fn take_row(&mut self, line: &[u8]) -> Result<(), Fault>
+        ensures { HasRow (with_row (block self.old) (words line.now)) (leaving self.new result) }
     {
         let before = self.numbers.len();
         push_row(&mut self.numbers, line)?;
@@ -67,18 +67,19 @@ impl Section {
         if self.wide != 0 && self.wide != wide {
             return Err(Fault::Flawed(Flaw::Width));
         }
-        Ok(Section { wide, ..self })
+        self.wide = wide;
+        Ok(())
     }
 
-    // With one price for all steps of a picture, unless it has one.
-    pub(crate) fn with_price(self, price: u32) -> Result<Section, Flaw>
-        ensures { mapped block result ≡ with_price (block self) price }
+    // One price for all steps of a picture, unless it has one.
+    pub(crate) fn take_price(&mut self, price: u32) -> Result<(), Flaw>
+        ensures { mapped block (leaving self.new result) ≡ with_price (block self.old) price }
     {
         match self.content {
-            Content::Picture(None) => Ok(Section {
-                content: Content::Picture(Some(price)),
-                ..self
-            }),
+            Content::Picture(None) => {
+                self.content = Content::Picture(Some(price));
+                Ok(())
+            }
             Content::Picture(Some(_)) => Err(Flaw::SecondPrice),
         }
     }

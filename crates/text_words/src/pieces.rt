@@ -1,5 +1,5 @@
 // Lines and words: the pieces of a text between marks.
-ghost use Rattle.std.specs.Prelude.{◌≡◌, ℕ, ◌+◌, ◌<◌, ◌≤◌, IsTrue, IsFalse, ◌∷◌, length, take, drop};
+ghost use Rattle.std.specs.Prelude.{◌≡◌, ℕ, ◌+◌, ◌<◌, ◌≤◌, IsTrue, IsFalse, List, ◌∷◌, length, take, drop};
 ghost use Rattle.std.specs.Iterator.{YieldsFirstBy, item_count};
 ghost use Rattle.text_words.specs.Pieces.{parts, pieces, lines, words, unmarked, First};
 
@@ -24,6 +24,16 @@ impl Mark {
             _ => false,
         }
     }
+
+    // Whether a byte is low enough to part two pieces: most aren't, and need no look at what comes after them.
+    fn may_part(self, b: u8) -> bool
+        ensures { IsFalse result → (after : List ℕ) → IsFalse (parts self (b ∷ after)) }
+    {
+        match self {
+            Mark::Newline => b <= b'\r',
+            Mark::Blank => b <= b' ',
+        }
+    }
 }
 
 // How many bytes come before the first that parts two pieces. By number, since a carriage return looks at the byte after it.
@@ -33,7 +43,7 @@ fn piece_len(mark: Mark, text: &[u8]) -> usize
     ensures found { result < length text.now → IsTrue (parts mark (drop result text.now)) }
 {
     for k in 0..text.len() {
-        if mark.parts(&text[k..]) {
+        if mark.may_part(text[k]) && mark.parts(&text[k..]) {
             return k;
         }
     }

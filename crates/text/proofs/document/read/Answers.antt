@@ -21,12 +21,12 @@ loop-number-init c =
       read = search rules;
     }
 
-pub returns-in_err-draft : goal.returns-in_err-draft
-returns-in_err-draft c =
+pub returns-in_err-map_err : goal.returns-in_err-map_err
+returns-in_err-map_err c =
     let line : c.in-Some.number ≡ c.loop-number.number-iterator.count = search rules in
     let first : lines c.loop-number.number-iterator.iter.0.now ≡ c.in-Some.line.now ∷ lines c.next.new.self.iter.0.now = search rules in
     let told = err_from_is_err_and c.from_residual.result c.from_residual.ensures.1 in
-    rw (told.1, told.2) (told_stops c.in-Some.number (notes c.loop-number.draft) _ (lines c.next.new.self.iter.0.now) c.in-Some.line.now _ c.with_line.result c.map_err.result c.in_err-draft.field-0.0 first c.with_line.ensures c.map_err.ensures.cases c.in_err-draft.was (rw line c.loop-number.invariant.read))
+    rw (told.1, told.2) (told_stops c.in-Some.number (notes c.loop-number.draft) _ (lines c.next.new.self.iter.0.now) c.in-Some.line.now _ c.take_line.new.self c.take_line.result c.map_err.result c.in_err-map_err.field-0.0 first c.take_line.ensures c.map_err.ensures.cases c.in_err-map_err.was (rw line c.loop-number.invariant.read))
 
 pub loop-number-preserved : goal.loop-number-preserved
 loop-number-preserved c =
@@ -38,7 +38,7 @@ loop-number-preserved c =
       can = (tt, tt, inl (omega arith));
       ends = search rules;
       fits = fits;
-      read = rw (more, ← line) (told_more c.in-Some.number (notes c.loop-number.draft) _ (lines c.next.new.self.iter.0.now) c.in-Some.line.now c.with_line.result c.map_err.result c.in_ok-draft.draft first c.with_line.ensures c.map_err.ensures.cases c.in_ok-draft.was ∙ rw line c.loop-number.invariant.read);
+      read = rw (more, ← line) (told_more c.in-Some.number (notes c.loop-number.draft) _ (lines c.next.new.self.iter.0.now) c.in-Some.line.now c.take_line.new.self c.take_line.result c.map_err.result c.in_ok-map_err.field-0 first c.take_line.ensures c.map_err.ensures.cases c.in_ok-map_err.was ∙ rw line c.loop-number.invariant.read);
     }
 
 pub returns : goal.returns
